@@ -1,0 +1,10 @@
+pub mod Indices
+pub mod Ring
+pub mod Solver
+pub mod Order
+pub mod Bits
+pub mod Floor
+pub mod Sums
+pub mod Dots
+pub mod Bridge
+pub mod Wraps

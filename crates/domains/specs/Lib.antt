@@ -1,0 +1,5 @@
+pub mod Axes
+pub mod Meaning
+pub mod Box
+pub mod BoxForms
+pub mod Enclosure
