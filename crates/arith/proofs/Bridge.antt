@@ -45,6 +45,10 @@ listed-ext (suc n) f g h = ap₂ _∷_ (h 0 (omega arith)) (listed-ext n (λ i. 
 pub dot-listed : (l f : ℕ → ℤ) → dot l (part (listed 4 f)) ≡ dot l f
 dot-listed l f = sum-ext 4 (λ i. l i *ℤ part (listed 4 f) i) (λ i. l i *ℤ f i) (λ i h. ap (λ (z : ℤ). l i *ℤ z) (listed-at 4 f (pos 0) i h))
 
+-- the same on the left
+pub dot-left : (f x : ℕ → ℤ) → dot (part (listed 4 f)) x ≡ dot f x
+dot-left f x = sum-ext 4 (λ i. part (listed 4 f) i *ℤ x i) (λ i. f i *ℤ x i) (λ i h. ap (λ (z : ℤ). z *ℤ x i) (listed-at 4 f (pos 0) i h))
+
 -- numbers that were computed, put into a list
 pub two-listed : (f : ℕ → ℤ) {a b : ℤ} → SFits w64 a → SFits w64 b → a ≡ f 0 → b ≡ f 1 → back a ∷ (back b ∷ []) ≡ listed 2 f
 two-listed f {a} {b} fa fb p q = ap₂ (λ (x y : ℤ). x ∷ (y ∷ [])) (back-is a fa ∙ p) (back-is b fb ∙ q) ∙ sym (listed-two f)

@@ -61,6 +61,12 @@ set-at u a b t P h same other =
     (λ (ne : b ≡ a → ⊥). let n : b ≢ a = ne in rw (getD-set-other u a b t (pos 0)) (other ne))
     (cases-eq b a)
 
+-- a list written from the index but for one element, which is set
+pub set-listed : (n : ℕ) (u : List ℤ) (p : ℕ) {v : ℤ} (f : ℕ → ℤ) → length u ≡ n → p < n → v ≡ f p → ((i : ℕ) → i < n → (i ≡ p → ⊥) → getD u i (pos 0) ≡ f i) → set u p v ≡ listed n f
+set-listed n u p {v} f e h q others =
+    listed-is n f (pos 0) (set u p v) (length-set u p v ∙ e)
+    (λ i k. set-at u p i v (λ (z : ℤ). z ≡ f i) (omega arith) (λ r. q ∙ ap f r) (others i k))
+
 -- a list that a loop writes from the index: its first a elements stand, and one more is written
 pub record Written (n a : ℕ) (f : ℕ → ℤ) (u : List ℤ) : Type 0 where
   pub long : length u ≡ n

@@ -2,6 +2,8 @@
 use mathlib.Core.Path.{_≡_, refl, ap, _∙_}
 use mathlib.Core.Bool.{Bool, true, false, cond}
 use Prim.Native.Nat.{ℕ, _+_, _*_, _/_, _%_, _<_, _≤_}
+use mathlib.Core.HLevel.{isProp→PathP}
+use denote.Struct.Props.{props}
 use native.Mathlib.Omega.{arith}
 use lib.Dec.{eqb}
 use lib.IntN.{ℤ, pos, negsuc, _+ℤ_, _*ℤ_, negℤ, natAbs}
@@ -9,6 +11,7 @@ use borrow.Author.Differences.{ints}
 use Rattle.arith.specs.Products.{dot, spanned}
 use Rattle.arith.proofs.Sums.{sum-single, total-single}
 use Rattle.dynamics.specs.Values.{State}
+use Rattle.domains.specs.declared.axis.SignedAxis.{SignedAxis}
 use Rattle.domains.specs.Axes.{signed, unit}
 
 sign : Bool → ℤ
@@ -40,3 +43,7 @@ unit-size a i = go (eqb i (a / 2)) (eqb (a % 2) 0)
     go true true = omega arith
     go true false = omega arith
     go false c = omega arith
+
+-- two axes of one number are the same
+pub axis-same : (a b : SignedAxis) → a .index ≡ b .index → a ≡ b
+axis-same a b p = λ i. record { index = p i; eight = isProp→PathP (λ j. p j < 8) (λ j. search props) (a .eight) (b .eight) i }

@@ -3,3 +3,4 @@ pub mod Meaning
 pub mod Box
 pub mod BoxForms
 pub mod Enclosure
+pub mod AllAxes

@@ -5,3 +5,4 @@ pub mod Whole
 pub mod Step
 pub mod Views
 pub mod Same
+pub mod Halves

@@ -24,3 +24,6 @@ middle-size m j h = omega (arith, m .calm .1 j h)
 
 pub radius-size : (m : Model) (j : ℕ) → j < 2 → radius m j ≤ 2 ^ 24
 radius-size m j h = omega (arith, m .calm .1 j h)
+
+pub width-size : (s : Start) (i : ℕ) → i < 4 → width s i ≤ 2 ^ 30
+width-size s i h = omega (arith, s .limited .1 i h)

@@ -6,3 +6,4 @@ pub mod Runs
 pub mod Rows
 pub mod KeepOuts
 pub mod Support
+pub mod Halves

@@ -6,6 +6,9 @@ ghost use Rattle.std.specs.Results.{Cases};
 ghost use Rattle.std.specs.declared.option.Option.the-variants.{Some, None};
 ghost use Rattle.dynamics.specs.Refusals.{number, place, start-numbers, start-refusal, wide-start};
 ghost use Rattle.dynamics.specs.Limits.{Start-limits, Exactly};
+
+mod halves;
+
 use super::ranges::Ranged;
 use super::ranges::first_outside;
 use super::ranges::is_too_large;

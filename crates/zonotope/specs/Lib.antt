@@ -1,0 +1,10 @@
+pub mod Shape
+pub mod Advance
+pub mod Choice
+pub mod Fold
+pub mod Spread
+pub mod Domain
+pub mod Tight
+pub mod Ranges
+pub mod Forms
+pub mod Foldings
