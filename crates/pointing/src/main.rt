@@ -1,4 +1,5 @@
-//! The program: the worked plan over the interval box, a line for each step.
+//! The program: the worked plan over the reduced product of zonotope and interval box, a line for
+//! each step.
 ghost use mathlib.Core.Path.{_≡_};
 ghost use mathlib.Core.List.{[], _∷_};
 ghost use lib.IntN.{pos};
@@ -12,8 +13,12 @@ use dynamics::channel::Channel;
 use dynamics::model::Model;
 use dynamics::refusal::Refusal;
 use dynamics::start::Start;
+use layers::product::ReducedProduct;
+use layers::product::ReducedProductDomain;
 use std::error::AnyError;
 use std::io;
+use zonotope::zonotope::Zonotope;
+use zonotope::zonotope::ZonotopeDomain;
 
 /// The worked plan's loop and gusts.
 fn worked_model() -> Result<Model, Refusal>
@@ -68,7 +73,7 @@ fn main(rt: LibcRuntime) -> Result<(), AnyError> {
     let Ok(start) = worked_start() else {
         return Err("the worked start was refused".into());
     };
-    let mut domain = IntervalBox::new();
+    let mut domain = ReducedProduct::new(Zonotope::new(), IntervalBox::new());
     domain.fill(&start);
     print_step(&rt, 0, &domain)?;
     domain.advance(&model);

@@ -1,0 +1,2 @@
+pub mod ProductLaws
+pub mod SplitLaws
