@@ -1,0 +1,9 @@
+pub mod Rows
+pub mod Judging
+pub mod Faults
+pub mod Flights
+pub mod Sequences
+pub mod Calls
+pub mod Promise
+pub mod Summaries
+pub mod Tightness
