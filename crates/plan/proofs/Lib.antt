@@ -1,0 +1,16 @@
+pub mod Digits
+pub mod Breaks
+pub mod Kept
+pub mod Inside
+pub mod Joins
+pub mod Tails
+pub mod Lates
+pub mod Writes
+pub mod Adds
+pub mod Numerals
+pub mod Seams
+pub mod Full
+pub mod Whole
+pub mod Sure
+pub mod Law
+pub mod Texts

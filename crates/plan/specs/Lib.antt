@@ -1,0 +1,13 @@
+pub mod Numbers
+pub mod Cuts
+pub mod Readings
+pub mod Shown
+pub mod Fields
+pub mod Records
+pub mod Keeps
+pub mod Values
+pub mod Plans
+pub mod Grammar
+pub mod Written
+pub mod Report
+pub mod Spelling

@@ -1,0 +1,21 @@
+//! A plan's text read into checked values, with every refusal, and the lines of a report.
+mod cuts;
+pub mod faults;
+mod fields;
+pub mod keep;
+mod keeping;
+pub mod keeps;
+mod late;
+mod line;
+mod lines;
+mod number;
+pub mod plan;
+pub mod reader;
+mod reading;
+mod record;
+pub mod steps;
+mod telling;
+pub mod told;
+mod values;
+pub mod writer;
+mod writing;
