@@ -6,7 +6,7 @@ use dynamics::start::Start;
 use std::test::*;
 use zonotope::zonotope::Zonotope;
 
-pub fn channel(gains: [i64; 4], centre: i64, radius: i64) -> Channel {
+pub(crate) fn channel(gains: [i64; 4], centre: i64, radius: i64) -> Channel {
     Channel {
         gains,
         centre,
@@ -14,7 +14,7 @@ pub fn channel(gains: [i64; 4], centre: i64, radius: i64) -> Channel {
     }
 }
 
-pub fn model(matrix: [[i64; 4]; 4], first: Channel, second: Channel) -> Result<Model, Fail> {
+pub(crate) fn model(matrix: [[i64; 4]; 4], first: Channel, second: Channel) -> Result<Model, Fail> {
     match Model::new(matrix, first, second) {
         Ok(model) => Ok(model),
         Err(_) => Err(Fail::new("the model was refused")),
@@ -22,18 +22,18 @@ pub fn model(matrix: [[i64; 4]; 4], first: Channel, second: Channel) -> Result<M
 }
 
 /// A model without gusts.
-pub fn calm(matrix: [[i64; 4]; 4]) -> Result<Model, Fail> {
+pub(crate) fn calm(matrix: [[i64; 4]; 4]) -> Result<Model, Fail> {
     model(matrix, channel([0; 4], 0, 0), channel([0; 4], 0, 0))
 }
 
-pub fn start(centres: [i64; 4], radii: [i64; 4]) -> Result<Start, Fail> {
+pub(crate) fn start(centres: [i64; 4], radii: [i64; 4]) -> Result<Start, Fail> {
     match Start::new(centres, radii) {
         Ok(start) => Ok(start),
         Err(_) => Err(Fail::new("the start was refused")),
     }
 }
 
-pub fn direction(entries: [i64; 4]) -> Result<Direction, Fail> {
+pub(crate) fn direction(entries: [i64; 4]) -> Result<Direction, Fail> {
     match Direction::new(entries) {
         Ok(direction) => Ok(direction),
         Err(_) => Err(Fail::new("the direction was refused")),
@@ -41,7 +41,7 @@ pub fn direction(entries: [i64; 4]) -> Result<Direction, Fail> {
 }
 
 /// Compares the generators with those expected, in order, and that no other stands.
-pub fn check_generators(zonotope: &Zonotope, expected: &[[i64; 4]]) -> Result<(), Fail> {
+pub(crate) fn check_generators(zonotope: &Zonotope, expected: &[[i64; 4]]) -> Result<(), Fail> {
     for place in 0..expected.len() {
         check_eq(zonotope.generator(place), Some(expected[place]))?;
     }
