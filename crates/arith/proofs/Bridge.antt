@@ -1,5 +1,5 @@
 -- From sums over an index to the parts written out, as code has them.
-use Rattle.std.proofs.Common.{◌≡◌, ℕ, zero, suc, ◌+◌, ◌<◌, List, [], ◌∷◌, ℤ, pos, ◌+ℤ◌, ◌*ℤ◌, sym, refl, ap, ◌∙◌, ap₂, arith, w64, SFits}
+use Rattle.std.proofs.Common.{◌≡◌, ℕ, zero, suc, ◌+◌, ◌<◌, [], ◌∷◌, ℤ, pos, ◌+ℤ◌, ◌*ℤ◌, sym, refl, ap, ◌∙◌, ap₂, arith, w64, SFits}
 use Rattle.arith.proofs.Ring.{linear}
 use Rattle.arith.specs.Sums.{sum, total, listed, part}
 use Rattle.arith.specs.Products.{dot}

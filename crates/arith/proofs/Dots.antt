@@ -1,14 +1,13 @@
 -- The laws of the scalar product.
-use Rattle.std.proofs.Common.{◌≡◌, ℕ, zero, suc, ◌+◌, ◌*◌, ◌<◌, ◌≤◌, List, [], ◌∷◌, ℤ, pos, ◌+ℤ◌, ◌-ℤ◌, ◌*ℤ◌, nat_abs, ◌≤ℤ◌, sym, refl, ap, ◌∙◌, ap₂, le_trans, mul_comm, mul-add, mul_left_comm, arith}
+use Rattle.std.proofs.Common.{◌≡◌, ℕ, ◌*◌, ◌<◌, ◌≤◌, [], ◌∷◌, ℤ, pos, ◌+ℤ◌, ◌*ℤ◌, nat_abs, sym, refl, ap, ◌∙◌, le_trans, mul_left_comm, arith}
 use lib.IntN.{*ℤ-zero, *ℤ_comm}
-use borrow.Author.Differences.{ints}
 use Rattle.arith.proofs.Ring
 use Rattle.arith.proofs.Ring.{linear}
-use Rattle.arith.proofs.Order.{abs-mul-le, triangle}
-use Rattle.arith.proofs.Solver.{Expr, var, ◌:*◌, solve}
-use Rattle.arith.specs.Sums.{sum, total, part}
+use Rattle.arith.proofs.Order.{abs-mul-le}
+use Rattle.arith.proofs.Solver.{var, ◌:*◌, solve}
+use Rattle.arith.specs.Sums.{sum}
 use Rattle.arith.specs.Products.{dot, row_times, times_column, spanned}
-use Rattle.arith.proofs.Sums.{sum_ext, sum-add, sum-mul, sum-zero, sum_swap, sum-abs, total-le, total_ext, total-add, total-mul, total_size}
+use Rattle.arith.proofs.Sums.{sum_ext, sum-add, sum-mul, sum-zero, sum_swap, sum-abs, total-le, total-mul, total_size}
 
 pub dot_ext : (l x y : ℕ → ℤ) → ((i : ℕ) → i < 4 → x i ≡ y i) → dot l x ≡ dot l y
 dot_ext l x y h = sum_ext 4 (λ i. l i *ℤ x i) (λ i. l i *ℤ y i) (λ i k. ap (λ (z : ℤ). l i *ℤ z) (h i k))

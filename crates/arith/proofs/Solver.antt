@@ -1,9 +1,9 @@
 -- A solver for equations of the commutative ring of the whole numbers, by reflection: an equation between two expressions over
 -- variables holds at every assignment where their normal forms, lists of coefficients and sorted products of variables, are the same.
-use Rattle.std.proofs.Common.{◌≡◌, ℕ, zero, suc, ◌+◌, ◌*◌, Bool, true, false, T, eqb, ltb, List, [], ◌∷◌, ℤ, pos, negsuc, ◌+ℤ◌, ◌-ℤ◌, ◌*ℤ◌, neg_ℤ, ◌≤ℤ◌, sym, refl, ap, ◌∙◌, subst, ap₂, arith, eqb-true}
-use lib.IntN.{+ℤ_assoc, +ℤ_comm, *ℤ_comm, +ℤ_idl, +ℤ_idr, zero-*ℤ, *ℤ-zero}
+use Rattle.std.proofs.Common.{◌≡◌, ℕ, zero, suc, Bool, true, false, eqb, ltb, List, [], ◌∷◌, ℤ, pos, negsuc, ◌+ℤ◌, ◌*ℤ◌, neg_ℤ, ◌≤ℤ◌, sym, refl, ap, ◌∙◌, ap₂, arith, eqb-true}
+use lib.IntN.{+ℤ_assoc, +ℤ_idl, +ℤ_idr, zero-*ℤ, *ℤ-zero}
 use borrow.Author.Differences.{ints}
-use Rattle.arith.proofs.Ring.{mul-add, add-mul, mul_assoc, mul-neg, neg-mul, neg-add, mul_left_comm, add_left_comm, sorting}
+use Rattle.arith.proofs.Ring.{add-mul, mul_assoc, neg-mul, neg-add, mul_left_comm, add_left_comm, sorting}
 
 infixl 6 ◌:+◌ ◌:-◌
 infixl 7 ◌:*◌

@@ -1,7 +1,6 @@
 -- The limit on an axis after a step, as the code gathers it.
-use Rattle.std.proofs.Common.{◌≡◌, ℕ, ◌+◌, ◌*◌, ◌/◌, ◌^◌, ◌<◌, ◌≤◌, Bool, true, false, List, ℤ, pos, ◌+ℤ◌, ◌*ℤ◌, nat_abs, sym, refl, ap, ◌∙◌, subst, ap₂, arith, lit<, w64, SFits}
+use Rattle.std.proofs.Common.{◌≡◌, ℕ, ◌+◌, ◌*◌, ◌/◌, ◌^◌, ◌<◌, ◌≤◌, Bool, true, false, List, ℤ, pos, ◌+ℤ◌, ◌*ℤ◌, nat_abs, sym, ap, ◌∙◌, subst, ap₂, arith, lit<, w64, SFits}
 use borrow.Author.Differences.{ints}
-use Rattle.arith.specs.Rounding.{floored}
 use Rattle.arith.specs.Sums.{part, entry, sum, total, listed}
 use Rattle.arith.specs.Products.{row_times, spanned}
 use Rattle.arith.proofs.Bits.{back, fits_abs}
@@ -14,7 +13,7 @@ use Rattle.dynamics.specs.Values.{middle, radius}
 use Rattle.dynamics.specs.Rows.{allowed, allowance, whole}
 use Rattle.dynamics.specs.Support.{through, across, gusts}
 use Rattle.domains.specs.Axes.{unit}
-use Rattle.domains.specs.Box.{side, support, carried}
+use Rattle.domains.specs.Box.{side, support}
 use Rattle.domains.specs.AxesLemmas.{unit_size, unit-spanned}
 use Rattle.domains.specs.BoxLaws.{support-size}
 use Rattle.domains.proofs.GustReach.{centred_size, spread_size}

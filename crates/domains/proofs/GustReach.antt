@@ -1,11 +1,9 @@
 -- What the gusts add, as two products.
-use Rattle.std.proofs.Common.{◌≡◌, ℕ, ◌+◌, ◌*◌, ◌^◌, ◌<◌, ◌≤◌, List, ℤ, pos, ◌+ℤ◌, ◌*ℤ◌, nat_abs, sym, ap, ◌∙◌, subst, ap₂, arith, lit<, w64, SFits}
-use borrow.Author.Differences.{ints}
+use Rattle.std.proofs.Common.{◌≡◌, ℕ, ◌*◌, ◌^◌, ◌<◌, ◌≤◌, List, ℤ, pos, ◌*ℤ◌, nat_abs, sym, ap, ◌∙◌, subst, ap₂, arith, lit<, w64, SFits}
 use Rattle.arith.specs.Sums.{part, sum, total, listed}
 use Rattle.arith.proofs.Bits.{fits_abs}
-use Rattle.arith.proofs.Order.{triangle}
 use Rattle.arith.proofs.Dots.{sum-size}
-use Rattle.arith.proofs.Sums.{sum_ext, sum-pos, listed_at, total_size}
+use Rattle.arith.proofs.Sums.{sum_ext, sum-pos, listed_at}
 use Rattle.dynamics.specs.declared.model.Model.{Model}
 use Rattle.dynamics.specs.Values.{middle, radius}
 use Rattle.dynamics.proofs.Views.{radius_is, middle-size, radius-size}

@@ -1,5 +1,5 @@
 -- Sizes and sides of numbers that were passed.
-use Rattle.std.proofs.Common.{◌≡◌, ℕ, ◌^◌, ◌<◌, ◌≤◌, ℤ, pos, nat_abs, ap, ◌∙◌, w64, SFits}
+use Rattle.std.proofs.Common.{◌≡◌, ℤ, pos, nat_abs, ap, ◌∙◌, w64, SFits}
 use Rattle.arith.proofs.Bits.{back, back_is}
 use Rattle.domains.specs.Box.{side}
 

@@ -1,5 +1,5 @@
 -- The eight signed axes in order.
-use Rattle.std.specs.Prelude.{ℕ, ◌<◌, List, [], ◌∷◌}
+use Rattle.std.specs.Prelude.{List, [], ◌∷◌}
 use Rattle.std.proofs.Common.{lit<}
 use Rattle.domains.specs.declared.axis.SignedAxis.{SignedAxis}
 

@@ -1,5 +1,5 @@
 -- The interval box: a limit for each signed axis, or unbounded.
-use Rattle.std.specs.Prelude.{◌≡◌, ℕ, suc, ◌+◌, ◌*◌, ◌/◌, ◌^◌, ◌<◌, ◌≤◌, Bool, true, false, cond, leb, List, length, ℤ, pos, negsuc, ◌+ℤ◌, ◌*ℤ◌, ◌≤ℤ◌, Some, None, Option, int_lt, nat_le, slice_set, unsigned_abs}
+use Rattle.std.specs.Prelude.{◌≡◌, ℕ, ◌+◌, ◌*◌, ◌/◌, ◌^◌, ◌<◌, ◌≤◌, Bool, true, false, cond, leb, List, length, ℤ, pos, negsuc, ◌+ℤ◌, ◌*ℤ◌, ◌≤ℤ◌, Some, None, Option, int_lt, nat_le, slice_set, unsigned_abs}
 use Rattle.arith.specs.Rounding.{floored}
 use Rattle.arith.specs.Sums.{sum, listed, every, part}
 use Rattle.arith.specs.Products.{spanned}

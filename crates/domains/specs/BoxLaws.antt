@@ -1,8 +1,8 @@
 -- The interval box is a lawful domain.
-use Rattle.std.specs.Prelude.{◌≡◌, ℕ, zero, suc, ◌+◌, ◌*◌, ◌/◌, ◌%◌, ◌^◌, ◌<◌, ◌≤◌, Bool, true, false, cond, leb, List, length, set, ℤ, pos, negsuc, ◌+ℤ◌, ◌-ℤ◌, ◌*ℤ◌, neg_ℤ, ◌≤ℤ◌, Some, None, Option, ◌==◌, int_lt, nat_le, slice_set, unsigned_abs, refl}
-use Rattle.std.proofs.Common.{sym, ap, subst, ◌∙◌, arith, leb-true, length-set}
+use Rattle.std.specs.Prelude.{◌≡◌, ℕ, suc, ◌+◌, ◌*◌, ◌/◌, ◌%◌, ◌^◌, ◌<◌, ◌≤◌, Bool, true, false, cond, leb, List, length, ℤ, pos, negsuc, ◌+ℤ◌, ◌-ℤ◌, ◌*ℤ◌, neg_ℤ, ◌≤ℤ◌, Some, None, ◌==◌, int_lt, nat_le, slice_set, unsigned_abs, refl}
+use Rattle.std.proofs.Common.{sym, subst, ◌∙◌, arith, leb-true, length-set}
 use Rattle.std.proofs.lemmas.Int.{ints}
-use Rattle.arith.specs.Sums.{sum, listed, every, part}
+use Rattle.arith.specs.Sums.{listed, part}
 use Rattle.arith.specs.Products.{dot, spanned}
 use Rattle.arith.proofs.Ring.{neg-mul, mul-neg, linear}
 use Rattle.arith.proofs.Order.{mul-le-pos}
@@ -14,14 +14,14 @@ use Rattle.dynamics.specs.declared.model.Model.{Model}
 use Rattle.dynamics.specs.declared.start.Start.{Start}
 use Rattle.dynamics.specs.declared.direction.Direction.{Direction}
 use Rattle.dynamics.specs.Values.{State, centre, width, along}
-use Rattle.dynamics.specs.Runs.{Started, Permitted}
+use Rattle.dynamics.specs.Runs.{Permitted}
 use Rattle.dynamics.specs.Rows.{allowance}
 use Rattle.dynamics.specs.Support.{through, gusts}
 use Rattle.dynamics.proofs.Step.{step_reach}
 use Rattle.domains.specs.declared.axis.SignedAxis.{SignedAxis}
 use Rattle.domains.specs.Axes.{signed, unit}
 use Rattle.domains.specs.Meaning.{Lawful, Answer}
-use Rattle.domains.specs.Box.{Form, Fitting, Holds, start_limit, filled, side, support, bounded, carried, within, kept_if, advanced, lowered, trimmed, box}
+use Rattle.domains.specs.Box.{Form, Fitting, Holds, start_limit, side, support, bounded, carried, within, kept_if, advanced, lowered, trimmed, box}
 use Rattle.domains.specs.AxesLemmas.{unit-dot}
 
 -- ---- the support of a box

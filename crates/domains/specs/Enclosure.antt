@@ -1,5 +1,5 @@
 -- The interval of each part that a domain's bounds on the signed axes enclose.
-use Rattle.std.specs.Prelude.{ℕ, ◌+◌, ◌*◌, List, [], ◌∷◌, ℤ, neg_ℤ, Some, None, Option}
+use Rattle.std.specs.Prelude.{ℕ, List, [], ◌∷◌, ℤ, neg_ℤ, Some, None, Option}
 use Rattle.domains.specs.declared.enclosure.Interval.{Interval}
 
 -- from minus the bound on the negative axis to the bound on the positive one; absent if one is

@@ -1,5 +1,5 @@
 -- What an abstract domain means, and when that is lawful.
-use Rattle.std.specs.Prelude.{ℕ, ◌^◌, ◌≤◌, ℤ, ◌≤ℤ◌, Some, None, Option, unsigned_abs}
+use Rattle.std.specs.Prelude.{◌^◌, ◌≤◌, ℤ, ◌≤ℤ◌, Some, None, Option, unsigned_abs}
 use Rattle.arith.specs.Products.{dot}
 use Rattle.dynamics.specs.declared.model.Model.{Model}
 use Rattle.dynamics.specs.declared.start.Start.{Start}

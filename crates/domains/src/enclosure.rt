@@ -16,7 +16,7 @@ pub struct Interval {
 /// The bound on the axis of a number.
 fn axis_bound<D: Domain>(domain: &D, axis: usize) -> Option<i64>
     requires { axis < 8 }
-    ensures { result ≡ sense.bounded (axes.axis axis) (form domain.now) }
+    ensures { result ≡ D.sense.bounded (axes.axis axis) (D.form domain.now) }
 {
     let Some(axis) = SignedAxis::new(axis) else {
         return None;
@@ -27,7 +27,7 @@ fn axis_bound<D: Domain>(domain: &D, axis: usize) -> Option<i64>
 /// The interval of one part, counted from 0; absent if one of its two bounds is.
 fn part_interval<D: Domain>(domain: &D, part: usize) -> Option<Interval>
     requires { part < 4 }
-    ensures { result ≡ spec.interval (sense.bounded (axes.axis (2 * part + 1)) (form domain.now)) (sense.bounded (axes.axis (2 * part)) (form domain.now)) }
+    ensures { result ≡ spec.interval (D.sense.bounded (axes.axis (2 * part + 1)) (D.form domain.now)) (D.sense.bounded (axes.axis (2 * part)) (D.form domain.now)) }
 {
     let low = axis_bound(domain, 2 * part + 1)?;
     let high = axis_bound(domain, 2 * part)?;
@@ -36,7 +36,7 @@ fn part_interval<D: Domain>(domain: &D, part: usize) -> Option<Interval>
 
 /// The intervals of the four parts; absent if one of the eight bounds is.
 pub fn enclosure<D: Domain>(domain: &D) -> Option<[Interval; 4]>
-    ensures { result ≡ spec.enclosed (λ a. sense.bounded (axes.axis a) (form domain.now)) }
+    ensures { result ≡ spec.enclosed (λ a. D.sense.bounded (axes.axis a) (D.form domain.now)) }
 {
     let first = part_interval(domain, 0)?;
     let second = part_interval(domain, 1)?;

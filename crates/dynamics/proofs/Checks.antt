@@ -1,6 +1,6 @@
 -- Numbers are accepted exactly within the limits.
-use Rattle.std.proofs.Common.{◌≡◌, ℕ, zero, suc, ◌+◌, ◌*◌, ◌^◌, ◌<◌, ◌≤◌, Bool, true, false, cond, ltb, List, [], ◌∷◌, ◌++◌, length, get_or, ℤ, pos, nat_abs, ◌≤ℤ◌, Some, None, Option, sym, refl, ap, ◌∙◌, ap₂, ⊎_elim, eq-or-lt_of_le, arith, w64, SFits, ltb-false, le-ltb}
-use Rattle.std.proofs.lemmas.Bool.{cond-true, cond-false}
+use Rattle.std.proofs.Common.{◌≡◌, ℕ, zero, suc, ◌+◌, ◌*◌, ◌^◌, ◌<◌, ◌≤◌, Bool, true, false, cond, List, [], ◌∷◌, ◌++◌, get_or, ℤ, pos, nat_abs, ◌≤ℤ◌, Some, None, Option, sym, refl, ap, ◌∙◌, ap₂, ⊎_elim, eq-or-lt_of_le, arith, w64, SFits, ltb-false, le-ltb}
+use Rattle.std.proofs.lemmas.Bool.{cond-false}
 use Rattle.arith.specs.Sums.{part, entry}
 use Rattle.arith.proofs.Bits.{back, back_is}
 use Rattle.arith.proofs.Indices.{by2, by4, by8}
@@ -8,7 +8,7 @@ use Rattle.dynamics.specs.declared.channel.Channel.{Channel}
 use Rattle.dynamics.specs.declared.ranges.Ranged.{Ranged}
 use Rattle.dynamics.specs.Ranges.{within, up_to, outside, first_outside, too_large, row_numbers, matrix_rows, joined}
 use Rattle.dynamics.specs.Refusals.{ranged, direction_refusal, keep_out_refusal, first_passing, start_numbers, wide_start, start_sums, start_refusal, channel_numbers, model_numbers, model_sums, model_refusal, by_parts}
-use Rattle.dynamics.specs.Limits.{Exactly, DirectionLimits, MatrixLimits, StartLimits, GustLimits, ModelLimits}
+use Rattle.dynamics.specs.Limits.{Exactly, DirectionLimits, MatrixLimits, StartLimits, ModelLimits}
 use Rattle.dynamics.proofs.Places.{nothing}
 use Rattle.dynamics.proofs.Inside.{within_inside, inside_within, up_to_least, up_to_most, inside_up_to, inside_at, none-outside, append_bad, append_good, append-none}
 

@@ -1,11 +1,11 @@
 -- The first number outside its range, found by a loop, and what is known where there is none.
-use Rattle.std.proofs.Common.{◌≡◌, ℕ, zero, suc, ◌+◌, ◌^◌, ◌<◌, ◌≤◌, true, false, cond, List, [], ◌∷◌, ◌++◌, length, get_or, drop, ℤ, pos, negsuc, nat_abs, Some, None, sym, refl, ap, ◌∙◌, ⊎_elim, arith}
+use Rattle.std.proofs.Common.{◌≡◌, ℕ, ◌+◌, ◌^◌, ◌<◌, ◌≤◌, true, false, List, [], ◌++◌, length, get_or, drop, ℤ, pos, Some, None, refl, ◌∙◌}
 use Rattle.std.proofs.lemmas.List.{at_drop_more, at_drop_all}
-use Rattle.std.proofs.lemmas.Bool.{cond-true, cond-false, cases_Bool}
+use Rattle.std.proofs.lemmas.Bool.{cond-true, cond-false}
 use Rattle.arith.specs.Sums.{entry}
 use Rattle.arith.proofs.Indices.{by4}
 use Rattle.dynamics.specs.declared.ranges.Ranged.{Ranged}
-use Rattle.dynamics.specs.Ranges.{within, outside, first_outside, row_numbers, matrix_rows, joined}
+use Rattle.dynamics.specs.Ranges.{within, outside, first_outside, matrix_rows, joined}
 
 -- what stands past the end, for `get_or`
 abbrev pub nothing : Ranged

@@ -1,8 +1,8 @@
 -- How far one step reaches in any direction.
-use Rattle.std.proofs.Common.{◌≡◌, ℕ, ◌+◌, ◌*◌, ◌<◌, ◌≤◌, ℤ, pos, negsuc, ◌+ℤ◌, ◌-ℤ◌, ◌*ℤ◌, nat_abs, ◌≤ℤ◌, sym, refl, ap, ◌∙◌, ap₂, arith}
+use Rattle.std.proofs.Common.{◌≡◌, ℕ, ◌*◌, ◌<◌, ◌≤◌, ℤ, pos, negsuc, ◌+ℤ◌, ◌-ℤ◌, ◌*ℤ◌, nat_abs, ◌≤ℤ◌, ap, ◌∙◌, ap₂, arith}
 use borrow.Author.Differences.{ints}
-use Rattle.arith.specs.Sums.{sum, total}
-use Rattle.arith.specs.Products.{dot, row_times, times_column, spanned}
+use Rattle.arith.specs.Sums.{sum}
+use Rattle.arith.specs.Products.{dot, times_column, spanned}
 use Rattle.arith.proofs.Ring
 use Rattle.arith.proofs.Ring.{linear}
 use Rattle.arith.proofs.Order.{abs-mul-le, below_abs}

@@ -1,10 +1,10 @@
 -- Radii are never negative, and the limits of centres and radii.
-use Rattle.std.proofs.Common.{◌≡◌, ℕ, ◌+◌, ◌^◌, ◌<◌, ◌≤◌, ℤ, pos, nat_abs, ◌≤ℤ◌, arith}
+use Rattle.std.proofs.Common.{◌≡◌, ℕ, ◌^◌, ◌<◌, ◌≤◌, ℤ, pos, nat_abs, ◌≤ℤ◌, arith}
 use borrow.Author.Differences.{ints}
 use Rattle.arith.specs.Sums.{part}
 use Rattle.dynamics.specs.declared.model.Model.{Model}
 use Rattle.dynamics.specs.declared.start.Start.{Start}
-use Rattle.dynamics.specs.Values.{middle, radius, centre, width}
+use Rattle.dynamics.specs.Values.{middle, radius, width}
 
 not_negative : (z : ℤ) → pos 0 ≤ℤ z → z ≡ pos (nat_abs z)
 not_negative z h = omega (arith, ints)

@@ -1,8 +1,8 @@
 -- A whole row rounds nothing away: a permitted part lies within its row's allowance.
-use Rattle.std.proofs.Common.{◌≡◌, ℕ, zero, suc, ◌+◌, ◌*◌, ◌%◌, ◌<◌, ◌≤◌, Bool, true, false, ◌&&◌, eqb, ℤ, pos, negsuc, ◌+ℤ◌, ◌-ℤ◌, ◌*ℤ◌, nat_abs, sym, refl, ap, ◌∙◌, ap₂, arith, eqb-true}
+use Rattle.std.proofs.Common.{◌≡◌, ℕ, suc, ◌%◌, ◌<◌, ◌≤◌, Bool, true, false, ◌&&◌, ℤ, pos, negsuc, ◌-ℤ◌, ◌*ℤ◌, nat_abs, refl, ap, ◌∙◌, arith, eqb-true}
 use borrow.Author.Differences.{ints}
 use Rattle.arith.specs.Rounding.{floored}
-use Rattle.arith.proofs.Ring.{mul_assoc, mul-add}
+use Rattle.arith.proofs.Ring.{mul_assoc}
 use Rattle.arith.specs.Sums.{sum, every}
 use Rattle.arith.proofs.Sums.{sum_ext, sum-mul, every_at}
 use Rattle.dynamics.specs.declared.model.Model.{Model}

@@ -1,5 +1,5 @@
 -- The exact support number: how far an unrounded run reaches in a direction of any size.
-use Rattle.std.specs.Prelude.{ℕ, zero, suc, ◌+◌, ◌*◌, ◌^◌, ℤ, pos, ◌+ℤ◌, ◌*ℤ◌, unsigned_abs}
+use Rattle.std.specs.Prelude.{ℕ, zero, suc, ◌*◌, ◌^◌, ℤ, pos, ◌+ℤ◌, ◌*ℤ◌, unsigned_abs}
 use Rattle.arith.specs.Sums.{sum, total}
 use Rattle.arith.specs.Products.{dot, row_times, spanned}
 use Rattle.dynamics.specs.declared.model.Model.{Model}

@@ -1,5 +1,7 @@
 //! The checked values of a plan (model, start, direction, keep-out, state) and, in specs/, which
 //! runs of the closed loop are permitted.
+#![tactic(auto)]
+
 pub mod allowance;
 pub mod channel;
 pub mod direction;

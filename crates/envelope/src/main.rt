@@ -1,4 +1,6 @@
 //! A program beside the report: the worked plan over the zonotope, after one step.
+#![tactic(auto)]
+
 ghost use Rattle.std.specs.Prelude.{◌≡◌, [], ◌∷◌, pos, IfOk};
 
 use anyhow::anyhow;

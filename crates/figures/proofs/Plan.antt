@@ -1,13 +1,12 @@
 -- The figures of the worked plan.
-use Rattle.std.proofs.Common.{◌≡◌, ℤ, pos, negsuc, Some, None, Ok, sym, refl, ap, ◌∙◌}
+use Rattle.std.proofs.Common.{◌≡◌, pos, Some, Ok, refl}
 use Rattle.arith.specs.Sums.{sum, total, listed, every}
 use Rattle.dynamics.specs.Support.{exact}
 use Rattle.domains.specs.Axes.{unit, axis}
 use Rattle.zonotope.specs.Advance.{images, advanced}
-use Rattle.zonotope.specs.Choice.{greatest, least, first, lightest}
 use Rattle.zonotope.specs.Domain.{moved_shape, bounded}
 use Rattle.zonotope.specs.Fold.{folded, folds}
-use Rattle.zonotope.specs.Spread.{spread_advanced, spread_folded, spread_charged, spreads}
+use Rattle.zonotope.specs.Spread.{spread_advanced, spreads}
 use Rattle.zonotope.specs.Tight.{after}
 use Rattle.plan.specs.Plans.{plan_of, tail_at}
 use Rattle.plan.specs.Spelling.{Spells}

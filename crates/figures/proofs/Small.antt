@@ -1,6 +1,6 @@
 -- The figures that follow by computing: folding, halving, limits and numbers.
-use Rattle.std.proofs.Common.{◌≡◌, ℕ, ◌+◌, List, [], ◌∷◌, ℤ, pos, negsuc, Some, None, codes, sym, refl, subst, subst₂}
-use Rattle.arith.specs.Sums.{sum, total, listed, every}
+use Rattle.std.proofs.Common.{◌≡◌, ℕ, ◌+◌, List, [], ◌∷◌, ℤ, pos, negsuc, Some, None, sym, refl, subst, subst₂}
+use Rattle.arith.specs.Sums.{total, listed}
 use Rattle.dynamics.specs.declared.start.Start.{Start}
 use Rattle.dynamics.specs.Halves.{lower_centres, upper_centres, half_radii}
 use Rattle.dynamics.specs.Limits.{StartLimits}
@@ -9,7 +9,6 @@ use Rattle.dynamics.specs.Refusals.{start_refusal, first_passing}
 use Rattle.dynamics.proofs.Same.{start_same}
 use Rattle.zonotope.specs.Choice.{greatest, least, first, weight, lightest}
 use Rattle.zonotope.specs.Fold.{folded}
-use Rattle.zonotope.specs.Shape.{Shape}
 use Rattle.zonotope.specs.Spread.{spread_folded, spread_charged}
 use Rattle.figures.specs.Figures.{generator, alone}
 use Rattle.figures.specs.Worked.{four, zeros}

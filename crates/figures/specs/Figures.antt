@@ -1,5 +1,5 @@
 -- The worked figures, as theorems about the definitions that the contracts of the code cite.
-use Rattle.std.specs.Prelude.{◌≡◌, ℕ, ◌+◌, ◌^◌, List, [], ◌∷◌, ℤ, pos, negsuc, Some, None, Ok, Err, codes, Option}
+use Rattle.std.specs.Prelude.{◌≡◌, ℕ, ◌+◌, List, [], ◌∷◌, ℤ, pos, negsuc, Some, None, Ok, Err, codes}
 use Rattle.arith.specs.Rounding.{floored, nearest, residue}
 use Rattle.dynamics.specs.declared.start.Start.{Start}
 use Rattle.dynamics.specs.Halves.{lower_centres, upper_centres, half_radii}
@@ -22,7 +22,7 @@ use Rattle.plan.specs.Report.{told, telling}
 use Rattle.plan.specs.Spelling.{Spells}
 use Rattle.plan.specs.Values.{start_of}
 use Rattle.report.specs.Report.{report_lines, bytes}
-use Rattle.report.specs.Tasks.{Task, task}
+use Rattle.report.specs.Tasks.{task}
 use Rattle.figures.specs.Worked as worked
 use Rattle.figures.specs.Worked.{four, zeros}
 

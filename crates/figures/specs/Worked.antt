@@ -1,10 +1,9 @@
 -- The worked plan: its text, the plan that the text spells, and its report.
-use Rattle.std.specs.Prelude.{ℕ, List, [], ◌∷◌, ◌++◌, ℤ, pos, negsuc, Some, codes}
+use Rattle.std.specs.Prelude.{ℕ, List, [], ◌∷◌, ℤ, pos, Some, codes}
 use Rattle.plan.specs.Grammar.{line}
 use Rattle.plan.specs.Plans.{Sheet}
 use Rattle.report.specs.Report.{bytes}
 use Rattle.zonotope.specs.Domain.{Standing}
-use Rattle.zonotope.specs.Shape.{Shape}
 
 -- a vector of four
 abbrev pub four : ℤ → ℤ → ℤ → ℤ → List ℤ

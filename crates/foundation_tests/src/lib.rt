@@ -1,5 +1,7 @@
 //! Figures for the arithmetic, the checked values and the interval box, worked out by hand or by an
 //! independent reckoning over unbounded whole numbers.
+#![tactic(auto)]
+
 #[cfg(test)]
 mod box_figures;
 #[cfg(test)]

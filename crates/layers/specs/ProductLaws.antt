@@ -1,16 +1,15 @@
 -- The reduced product of two lawful domains is lawful.
-use Rattle.std.specs.Prelude.{◌≡◌, ℕ, ◌^◌, ◌≤◌, Bool, true, false, cond, List, [], ◌∷◌, ℤ, pos, ◌≤ℤ◌, Some, None, Option, int_lt, unsigned_abs}
-use Rattle.std.proofs.Common.{sym, ◌∙◌}
+use Rattle.std.specs.Prelude.{◌≡◌, ◌^◌, ◌≤◌, Bool, true, false, cond, List, [], ◌∷◌, ℤ, ◌≤ℤ◌, Some, None, Option, int_lt, unsigned_abs}
+use Rattle.std.proofs.Common.{◌∙◌}
 use Rattle.arith.specs.Products.{dot}
 use Rattle.arith.proofs.Bridge.{dot-left}
-use Rattle.dynamics.specs.declared.direction.Direction.{Direction}
 use Rattle.dynamics.specs.Values.{State, along}
 use Rattle.domains.specs.declared.axis.SignedAxis.{SignedAxis}
 use Rattle.domains.specs.AllAxes.{all_axes}
 use Rattle.domains.specs.Axes.{signed, unit, axis}
 use Rattle.domains.specs.Meaning.{Meaning, Answer, Lawful}
 use Rattle.domains.specs.AxesLemmas.{unit-dot}
-use Rattle.layers.specs.Product.{lesser, cut_both, narrowed, narrowed_by, reduced, product}
+use Rattle.layers.specs.Product.{lesser, cut_both, narrowed, narrowed_by, product}
 
 -- what holds of both bounds holds of the lesser
 pub lesser_answer : (a b : Option ℤ) (P : ℤ → Type 0) → Answer a P → Answer b P → Answer (lesser a b) P

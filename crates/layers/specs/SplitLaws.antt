@@ -1,11 +1,10 @@
 -- The split of a lawful domain is lawful.
-use Rattle.std.specs.Prelude.{◌≡◌, ℕ, ◌^◌, ◌≤◌, Bool, true, false, cond, ◌⊎◌, ℤ, ◌≤ℤ◌, Some, None, Option, int_lt, unsigned_abs, refl}
+use Rattle.std.specs.Prelude.{◌≡◌, ◌^◌, ◌≤◌, Bool, true, false, cond, ℤ, ◌≤ℤ◌, Some, None, Option, int_lt, unsigned_abs, refl}
 use Rattle.std.proofs.Common.{inl, inr, ⊎_elim, arith}
 use Rattle.std.proofs.lemmas.Int.{ints}
 use Rattle.arith.specs.Products.{dot}
-use Rattle.dynamics.specs.declared.start.Start.{Start}
 use Rattle.dynamics.specs.Runs.{Started}
-use Rattle.dynamics.specs.Values.{State, along}
+use Rattle.dynamics.specs.Values.{along}
 use Rattle.dynamics.proofs.Halves.{halves_cover}
 use Rattle.domains.specs.Meaning.{Meaning, Answer, Lawful}
 use Rattle.layers.specs.Split.{greater, lower_half, upper_half, split}

@@ -1,5 +1,7 @@
 //! Figures for the halving, the split and the reduced product, reckoned apart from the code over
 //! unbounded whole numbers, and stacks of layers in use.
+#![tactic(auto)]
+
 #[cfg(test)]
 mod halving;
 #[cfg(test)]

@@ -1,5 +1,7 @@
 //! A tube by its seven calls: open, watch, launch, step, bound, finding and finish, over the reduced
 //! product of zonotope and interval box.
+#![tactic(auto)]
+
 ghost use Rattle.std.specs.Prelude.{◌≡◌, IfOk, None};
 
 use anyhow::anyhow;

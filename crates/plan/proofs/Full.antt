@@ -1,30 +1,21 @@
 -- Every text that spells a plan is read as that plan.
-use Rattle.std.proofs.Common.{◌≡◌, ℕ, zero, suc, ◌+◌, ◌^◌, ◌<◌, ◌≤◌, Bool, true, false, cond, ltb, List, [], ◌∷◌, ◌++◌, length, get_or, ℤ, pos, neg_ℤ, nat_abs, ◌≤ℤ◌, Ok, Err, Result, sym, refl, ap, ◌∙◌, subst, ap₂, arith}
-use Rattle.std.proofs.lemmas.List.{append_assoc, append-nil}
+use Rattle.std.proofs.Common.{◌≡◌, ℕ, zero, suc, ◌+◌, ◌^◌, ◌<◌, ◌≤◌, true, List, [], ◌∷◌, ◌++◌, length, get_or, ℤ, pos, neg_ℤ, nat_abs, ◌≤ℤ◌, Ok, Result, refl, ap, ◌∙◌, ap₂, arith}
 use Rattle.std.proofs.lemmas.Int.{ints}
 use Rattle.std.proofs.lemmas.Bool.{cond-true, cond-false, le-ltb}
-use Rattle.arith.specs.Sums.{part, entry}
-use Rattle.dynamics.specs.declared.channel.Channel.{Channel}
+use Rattle.arith.specs.Sums.{part}
 use Rattle.dynamics.specs.Limits.{DirectionLimits}
 use Rattle.dynamics.specs.Ranges.{too_large}
-use Rattle.dynamics.specs.Refusals.{by_parts}
-use Rattle.plan.specs.declared.faults.FieldFault.{FieldFault}
 use Rattle.plan.specs.declared.faults.LineFault.{LineFault}
-use Rattle.plan.specs.declared.record.Kind.{Kind}
-use Rattle.plan.specs.declared.record.Kind.TheVariants as kinds
 use Rattle.plan.specs.declared.record.Expected.{Expected}
-use Rattle.plan.specs.declared.record.Expected.TheVariants as expect
 use Rattle.plan.specs.Fields.{within_field, up_to_field, index_of, entries_of, is_label, label_of}
 use Rattle.plan.specs.Grammar.{line, word}
 use Rattle.plan.specs.Keeps.{Kept}
-use Rattle.plan.specs.Plans.{Loop, Begin, Sheet, rows_at, loop_at, begin_at, tail_at, sheet_at, ended, plan_of}
-use Rattle.plan.specs.Readings.{Reading, bind, then, placed, line_by}
+use Rattle.plan.specs.Readings.{bind, placed, line_by}
 use Rattle.plan.specs.Records.{Fielded, kind_of, width, record_of}
-use Rattle.plan.specs.Spelling.{Numeral, Item, number, label, Spelt, Fields, Entry, Lines, numbers4, row_entry, gust_entry, start_entry, keep_entry, steps_entry, loop_entries, begin_entries, tail_entries, entries, Square, KeptSound, AllSound, Sound, Spells}
-use Rattle.plan.specs.Values.{in_line, together, pair_of, row_from, gust_from, start_from, keep_out_of, keep_from, steps_of, steps_from, late_from, keeping, stepping, row_of, gust_of, start_of, late_of}
+use Rattle.plan.specs.Spelling.{Numeral, Item, number, Spelt, Fields, Entry, numbers4, row_entry, keep_entry, steps_entry, KeptSound}
+use Rattle.plan.specs.Values.{in_line, together, pair_of, row_from, gust_from, start_from, keep_from, steps_from}
 use Rattle.plan.proofs.Numerals.{ranged_full}
 use Rattle.plan.proofs.Seams.{fields_clean, fields_length, line_again}
-use Rattle.plan.proofs.Tails.{more_steps, more_keep, last_steps}
 
 pub bind_at : {A B E : Type 0} (r : Result A E) (k : A → Result B E) (x : A) → r ≡ Ok x → bind r k ≡ k x
 bind_at r k x e = ap (λ r. bind r k) e

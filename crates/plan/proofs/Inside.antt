@@ -1,13 +1,12 @@
 -- What was read lies within its limits.
-use Rattle.std.proofs.Common.{◌≡◌, ℕ, ◌+◌, ◌^◌, ◌<◌, ◌≤◌, Bool, true, false, cond, ◌||◌, List, [], ◌∷◌, get_or, ℤ, pos, neg_ℤ, nat_abs, ◌≤ℤ◌, Some, None, Ok, Err, Option, Result, sym, refl, ap, ◌∙◌, subst, arith}
+use Rattle.std.proofs.Common.{◌≡◌, ℕ, ◌+◌, ◌^◌, ◌≤◌, Bool, true, false, cond, ◌||◌, List, [], ◌∷◌, get_or, ℤ, pos, neg_ℤ, nat_abs, ◌≤ℤ◌, Some, None, Ok, Err, Option, Result, refl, ap, ◌∙◌, subst, arith}
 use lib.Signed.{lt_z}
 use Rattle.std.proofs.lemmas.Int.{ints}
 use Rattle.std.proofs.lemmas.Bool.{or_parts, ltb-false}
-use Rattle.std.proofs.lemmas.Bool.Decides.{nat_tests}
 use Rattle.arith.specs.Sums.{part, entry}
 use Rattle.arith.proofs.Indices.{by2, by4}
 use Rattle.dynamics.specs.declared.channel.Channel.{Channel}
-use Rattle.dynamics.specs.Limits.{DirectionLimits, MatrixLimits, GustLimits, ModelLimits, StartLimits}
+use Rattle.dynamics.specs.Limits.{DirectionLimits, MatrixLimits, ModelLimits}
 use Rattle.dynamics.specs.Ranges.{too_large}
 use Rattle.dynamics.specs.Refusals.{by_parts}
 use Rattle.plan.specs.declared.faults.NumberFault.{NumberFault}
@@ -19,7 +18,7 @@ use Rattle.plan.specs.declared.faults.LineFault.TheVariants.{Sum}
 use Rattle.plan.specs.declared.record.Expected.TheVariants as expect
 use Rattle.plan.specs.Cuts.{line_of}
 use Rattle.plan.specs.Records.{record_of}
-use Rattle.plan.specs.Readings.{Reading, bind, then, found, placed, line_by}
+use Rattle.plan.specs.Readings.{bind, then, found, placed, line_by}
 use Rattle.plan.specs.Fields.{in_range, ranged, within_field, up_to_field, index_of, entries_of}
 use Rattle.plan.specs.Values.{in_line, together, pair_of, row_from, gust_from, start_from, row_of, gust_of, start_of}
 use Rattle.plan.specs.Plans.{rows_at}

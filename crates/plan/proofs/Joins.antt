@@ -1,5 +1,5 @@
 -- What was cut is put together again.
-use Rattle.std.proofs.Common.{◌≡◌, ℕ, suc, ◌+◌, ◌<◌, ◌≤◌, Bool, true, false, cond, eqb, List, [], ◌∷◌, ◌++◌, length, take, drop, Some, None, Ok, Err, codes, Option, Result, sym, refl, ap, ◌∙◌, subst, arith}
+use Rattle.std.proofs.Common.{◌≡◌, ℕ, ◌+◌, Bool, true, false, cond, eqb, List, [], ◌∷◌, ◌++◌, length, take, drop, Some, None, Ok, Err, codes, Option, Result, sym, refl, ap, ◌∙◌, subst, arith}
 use Rattle.std.proofs.lemmas.Slice.Eq.{bytes_eq-Decides}
 use Rattle.std.proofs.lemmas.List.{append_assoc, drop-drop, take_at}
 use Rattle.std.proofs.lemmas.Bool.{eqb-true}
@@ -12,7 +12,6 @@ use Rattle.plan.specs.declared.record.Expected.{Expected}
 use Rattle.plan.specs.declared.record.Expected.TheVariants.{Row, Gust, Start, KeepOrSteps, OnlySteps}
 use Rattle.plan.specs.Cuts.{line_of, longer_line, fields_of, longer_field}
 use Rattle.plan.specs.Grammar.{tabs, tabbed, word}
-use Rattle.plan.specs.Readings.{bind}
 use Rattle.plan.specs.Records.{Fielded, only, kind_of, width, counted, named, record_of}
 use Rattle.plan.proofs.Inside.{bind_ok}
 

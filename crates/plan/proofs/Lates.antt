@@ -7,7 +7,6 @@ use Rattle.plan.specs.declared.record.Kind.TheVariants as kinds
 use Rattle.plan.specs.declared.record.Expected.{Expected}
 use Rattle.plan.specs.Cuts.{line_of}
 use Rattle.plan.specs.Fields.{is_label, label_of}
-use Rattle.plan.specs.Keeps.{Kept}
 use Rattle.plan.specs.Readings.{Reading, bind, then, found, cut_line, placed, line_by}
 use Rattle.plan.specs.Records.{Fielded, record_of}
 use Rattle.plan.specs.Values.{Late, keeping, in_line, keep_out_of, late_from, late_of}

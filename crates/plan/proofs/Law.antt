@@ -1,29 +1,26 @@
 -- A text is read as a plan exactly where it spells that plan.
-use Rattle.std.proofs.Common.{◌≡◌, ℕ, zero, suc, ◌+◌, ◌^◌, ◌<◌, ◌≤◌, Bool, true, false, cond, ltb, List, [], ◌∷◌, ◌++◌, length, get_or, ℤ, pos, nat_abs, ◌≤ℤ◌, Ok, Err, Result, sym, refl, ap, ◌∙◌, subst, arith}
+use Rattle.std.proofs.Common.{◌≡◌, ℕ, zero, suc, ◌+◌, ◌^◌, ◌≤◌, Bool, true, false, cond, ltb, List, [], ◌∷◌, ◌++◌, length, ℤ, pos, nat_abs, ◌≤ℤ◌, Ok, Err, Result, sym, refl, ap, ◌∙◌, subst, arith}
 use Rattle.std.proofs.lemmas.List.{append_assoc, append-nil}
 use Rattle.std.proofs.lemmas.Bool.{ltb-false}
 use Rattle.arith.specs.Sums.{part}
 use Rattle.arith.proofs.Indices.{by4}
-use Rattle.dynamics.specs.declared.channel.Channel.{Channel}
-use Rattle.dynamics.specs.Limits.{DirectionLimits, MatrixLimits, ModelLimits, StartLimits, Exactly}
+use Rattle.dynamics.specs.Limits.{MatrixLimits, ModelLimits, StartLimits}
 use Rattle.dynamics.specs.Refusals.{by_parts}
-use Rattle.plan.specs.declared.faults.LineFault.{LineFault}
 use Rattle.plan.specs.declared.faults.LineFault.TheVariants.{Crowded}
 use Rattle.plan.specs.declared.faults.Refusal.{Refusal}
-use Rattle.plan.specs.declared.faults.Refusal.TheVariants.{TooLong, Line, Following}
+use Rattle.plan.specs.declared.faults.Refusal.TheVariants.{TooLong}
 use Rattle.plan.specs.declared.plan.Plan.{Plan}
 use Rattle.plan.specs.declared.record.Expected.TheVariants as expect
 use Rattle.plan.specs.declared.record.Kind.TheVariants as kinds
 use Rattle.plan.specs.Grammar.{line, word}
 use Rattle.plan.specs.Keeps.{Kept}
 use Rattle.plan.specs.Plans.{Loop, Begin, Sheet, rows_at, loop_at, begin_at, go_on, tail_at, sheet_at, at_end, ended, plan_of, sheet}
-use Rattle.plan.specs.Readings.{Reading, bind, then, line_by}
+use Rattle.plan.specs.Readings.{Reading, line_by}
 use Rattle.plan.specs.Shown.{shown}
-use Rattle.plan.specs.Spelling.{Lines, Entry, loop_entries, begin_entries, tail_entries, entries, Square, AllSound, Sound, Spells, Answers}
+use Rattle.plan.specs.Spelling.{Lines, Entry, loop_entries, begin_entries, tail_entries, Square, AllSound, Spells, Answers}
 use Rattle.plan.specs.Values.{Late, keeping, stepping, row_of, gust_of, start_of, late_of}
 use Rattle.plan.proofs.Inside.{bind_ok, rows_kept, model_kept}
 use Rattle.plan.proofs.Sure.{row_read, gust_read, start_read, LateRead, late_read}
-use Rattle.plan.proofs.Tails.{never_keep}
 use Rattle.plan.proofs.Whole.{plan_full}
 
 ok_same : {A E : Type 0} (x y : A) → ◌≡◌ {A = Result A E} (Ok x) (Ok y) → x ≡ y

@@ -1,5 +1,5 @@
 -- A line put together of clean fields is cut into those fields again.
-use Rattle.std.proofs.Common.{◌≡◌, ℕ, ◌+◌, ◌<◌, ◌≤◌, Bool, true, false, cond, ◌&&◌, ◌||◌, eqb, leb, ◌⊎◌, List, [], ◌∷◌, ◌++◌, length, ℤ, pos, neg_ℤ, Some, None, Ok, Err, Result, sym, refl, ap, ◌∙◌, subst, ⊎_elim, arith}
+use Rattle.std.proofs.Common.{◌≡◌, ℕ, ◌+◌, ◌<◌, Bool, true, false, ◌&&◌, eqb, leb, List, [], ◌∷◌, ◌++◌, length, ℤ, pos, neg_ℤ, Some, Ok, Result, refl, ap, ◌∙◌, ⊎_elim, arith}
 use Rattle.std.proofs.lemmas.List.{append_assoc, append-nil}
 use Rattle.std.proofs.lemmas.Bool.{cond-true, cond-false, and_parts, and_from, eq-eqb}
 use Rattle.std.proofs.lemmas.Bool.Decides.{nat_tests}
@@ -11,7 +11,7 @@ use Rattle.plan.specs.Cuts.{line_of, longer_line, fields_of, longer_field}
 use Rattle.plan.specs.Fields.{is_plain, all_plain, is_label}
 use Rattle.plan.specs.Grammar.{tabs, tabbed, line, word}
 use Rattle.plan.specs.Numbers.{is_digit}
-use Rattle.plan.specs.Readings.{Reading, bind, then, found, cut_line, placed, line_by}
+use Rattle.plan.specs.Readings.{bind, then, found, placed, line_by}
 use Rattle.plan.specs.Records.{Fielded, kind_of, width, counted, named, record_of}
 use Rattle.plan.specs.Spelling.{all_digits, Magnitude, Numeral, Item, number, label, Spelt, Fields}
 

@@ -1,5 +1,5 @@
 -- Every text that is read as a plan spells that plan.
-use Rattle.std.proofs.Common.{◌≡◌, ℕ, zero, suc, ◌+◌, ◌^◌, ◌<◌, ◌≤◌, Bool, true, false, cond, List, [], ◌∷◌, ◌++◌, length, get_or, ℤ, pos, neg_ℤ, nat_abs, ◌≤ℤ◌, Ok, Err, Result, sym, refl, ap, ◌∙◌, subst, ap₂, arith}
+use Rattle.std.proofs.Common.{◌≡◌, ℕ, zero, suc, ◌+◌, ◌^◌, ◌≤◌, List, [], ◌∷◌, ◌++◌, length, get_or, ℤ, pos, neg_ℤ, nat_abs, ◌≤ℤ◌, Ok, Result, sym, refl, ap, ◌∙◌, subst, arith}
 use Rattle.std.proofs.lemmas.List.{append_assoc}
 use Rattle.std.proofs.lemmas.Int.{ints}
 use Rattle.arith.specs.Sums.{part}
@@ -10,13 +10,13 @@ use Rattle.plan.specs.declared.record.Kind.{Kind}
 use Rattle.plan.specs.declared.record.Kind.TheVariants as kinds
 use Rattle.plan.specs.declared.record.Expected.{Expected}
 use Rattle.plan.specs.declared.record.Expected.TheVariants as expect
-use Rattle.plan.specs.Fields.{ranged, within_field, up_to_field, index_of, entries_of, is_label, label_of}
+use Rattle.plan.specs.Fields.{within_field, up_to_field, index_of, entries_of, is_label, label_of}
 use Rattle.plan.specs.Grammar.{tabbed, line, word}
 use Rattle.plan.specs.Keeps.{Kept}
 use Rattle.plan.specs.Readings.{bind, line_by}
 use Rattle.plan.specs.Records.{Fielded, kind_of, width, record_of}
-use Rattle.plan.specs.Spelling.{Numeral, Item, number, label, Spelt, Fields, numbers4, row_entry, keep_entry, steps_entry, KeptSound}
-use Rattle.plan.specs.Values.{Late, keeping, stepping, in_line, pair_of, row_from, gust_from, start_from, keep_out_of, keep_from, steps_of, steps_from, late_from, row_of, gust_of, start_of, late_of}
+use Rattle.plan.specs.Spelling.{Numeral, Item, number, Spelt, Fields, numbers4, row_entry, keep_entry, steps_entry, KeptSound}
+use Rattle.plan.specs.Values.{Late, keeping, stepping, in_line, pair_of, row_from, gust_from, start_from, keep_out_of, keep_from, steps_from, late_from, row_of, gust_of, start_of, late_of}
 use Rattle.plan.proofs.Inside.{bind_ok, in_line_ok, ranged-kept, within-kept, up_to_kept, entries-kept, together_ok, pair_kept, line_by_ok, ChannelKept}
 use Rattle.plan.proofs.Joins.{line-joined, record_joined}
 use Rattle.plan.proofs.Lates.{label_ok}

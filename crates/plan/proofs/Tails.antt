@@ -1,6 +1,5 @@
 -- The lines after the starts, one by one.
-use Rattle.std.proofs.Common.{◌≡◌, ℕ, zero, suc, Bool, true, false, cond, List, [], ◌∷◌, ◌++◌, Ok, Err, codes, Result, refl, ap, ◌∙◌, subst, arith}
-use Rattle.std.specs.Str.{bytes_eq}
+use Rattle.std.proofs.Common.{◌≡◌, ℕ, suc, List, [], ◌∷◌, ◌++◌, Ok, Err, Result, refl, ap, ◌∙◌, subst, arith}
 use Rattle.plan.specs.declared.faults.LineFault.{LineFault}
 use Rattle.plan.specs.declared.faults.LineFault.TheVariants.{Crowded}
 use Rattle.plan.specs.declared.record.Kind.{Kind}
@@ -8,9 +7,9 @@ use Rattle.plan.specs.declared.record.Kind.TheVariants as kinds
 use Rattle.plan.specs.declared.record.Expected.TheVariants.{KeepOrSteps, OnlySteps}
 use Rattle.plan.specs.Grammar.{word}
 use Rattle.plan.specs.Readings.{then, line_by}
-use Rattle.plan.specs.Records.{Fielded, kind_of, record_of}
+use Rattle.plan.specs.Records.{kind_of, record_of}
 use Rattle.plan.specs.Keeps.{Kept}
-use Rattle.plan.specs.Values.{Late, keeping, stepping, late_of, late_from, steps_from}
+use Rattle.plan.specs.Values.{keeping, stepping, late_of, late_from, steps_from}
 use Rattle.plan.specs.Plans.{go_on, tail_at}
 use Rattle.plan.proofs.Inside.{bind_ok, line_by_ok}
 use Rattle.plan.proofs.Joins.{record_joined}

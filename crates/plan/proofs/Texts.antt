@@ -1,21 +1,21 @@
 -- The written text of a plan spells that plan.
-use Rattle.std.proofs.Common.{◌≡◌, ℕ, zero, suc, ◌+◌, ◌*◌, ◌^◌, ◌<◌, ◌≤◌, Bool, true, false, ◌&&◌, leb, ◌⊎◌, List, [], ◌∷◌, ◌++◌, map, length, get_or, ℤ, pos, negsuc, nat_abs, Ok, decimal, sym, refl, ap, ◌∙◌, subst, inl, inr, arith, rules}
+use Rattle.std.proofs.Common.{◌≡◌, ℕ, zero, suc, ◌+◌, ◌*◌, ◌^◌, ◌<◌, ◌≤◌, true, ◌&&◌, leb, List, [], ◌∷◌, ◌++◌, map, length, get_or, ℤ, pos, negsuc, nat_abs, Ok, decimal, refl, inl, inr, arith, rules}
 use Rattle.std.proofs.lemmas.Fmt.{decimal_digit, digits_decimal, digits_value-decimal, first_decimal, length-decimal-le}
-use Rattle.std.proofs.lemmas.List.{length-append, length-map}
+use Rattle.std.proofs.lemmas.List.{length-append}
 use Rattle.std.proofs.lemmas.Str.Parse.{IsNumeralModel, numerals_by_fold}
 use Rattle.std.proofs.lemmas.Bool.{and_parts, leb-true}
 use Rattle.std.proofs.lemmas.Bool.Decides.{nat_tests}
 use Rattle.std.specs.Fmt.{signed_decimal}
-use Rattle.arith.specs.Sums.{part, entry}
+use Rattle.arith.specs.Sums.{part}
 use Rattle.dynamics.specs.Limits.{DirectionLimits, MatrixLimits, GustLimits}
 use Rattle.plan.specs.declared.record.Kind.{Kind}
 use Rattle.plan.specs.declared.record.Kind.TheVariants as kinds
 use Rattle.plan.specs.Fields.{all_plain, is_label}
-use Rattle.plan.specs.Grammar.{tabs, line, word}
+use Rattle.plan.specs.Grammar.{tabs, word}
 use Rattle.plan.specs.Keeps.{Kept}
 use Rattle.plan.specs.Numbers.{is_digit, is_lead, number_of}
-use Rattle.plan.specs.Plans.{Loop, Begin, Sheet, plan_of}
-use Rattle.plan.specs.Spelling.{all_digits, value, Magnitude, Numeral, Item, number, label, Spelt, Fields, Entry, Lines, numbers4, row_entry, gust_entry, start_entry, keep_entry, steps_entry, loop_entries, begin_entries, tail_entries, entries, KeptSound, AllSound, Sound, Spells, item_text, entries_text, plan_text}
+use Rattle.plan.specs.Plans.{Loop, Sheet, plan_of}
+use Rattle.plan.specs.Spelling.{all_digits, value, Magnitude, Numeral, Item, number, label, Spelt, Fields, Entry, Lines, numbers4, gust_entry, loop_entries, begin_entries, tail_entries, entries, AllSound, Sound, Spells, item_text, entries_text, plan_text}
 use Rattle.plan.proofs.Numerals.{number_full}
 use Rattle.plan.proofs.Whole.{plan_full}
 

@@ -1,19 +1,18 @@
 -- Every text that spells a plan is read as that plan: all its lines.
-use Rattle.std.proofs.Common.{◌≡◌, ℕ, zero, suc, ◌+◌, ◌^◌, ◌<◌, ◌≤◌, Bool, true, false, cond, ltb, List, [], ◌∷◌, ◌++◌, length, get_or, ℤ, pos, nat_abs, ◌≤ℤ◌, Ok, Err, Result, sym, refl, ap, ◌∙◌, subst, ap₂, arith}
+use Rattle.std.proofs.Common.{◌≡◌, ℕ, zero, suc, ◌+◌, ◌^◌, ◌<◌, ◌≤◌, ltb, List, [], ◌∷◌, ◌++◌, length, get_or, ℤ, nat_abs, Ok, sym, refl, ap, ◌∙◌, arith}
 use Rattle.std.proofs.lemmas.List.{append_assoc, append-nil}
 use Rattle.std.proofs.lemmas.Bool.{cond-false, le-ltb}
 use Rattle.arith.specs.Sums.{part, entry}
 use Rattle.arith.proofs.Indices.{by4}
-use Rattle.dynamics.specs.declared.channel.Channel.{Channel}
 use Rattle.dynamics.specs.Limits.{DirectionLimits, MatrixLimits, GustLimits, ModelLimits, StartLimits}
 use Rattle.dynamics.specs.Refusals.{by_parts}
 use Rattle.plan.specs.declared.record.Expected.TheVariants as expect
 use Rattle.plan.specs.Grammar.{line, word}
 use Rattle.plan.specs.Keeps.{Kept}
-use Rattle.plan.specs.Plans.{Loop, Begin, Sheet, rows_at, loop_at, begin_at, tail_at, sheet_at, ended, plan_of}
-use Rattle.plan.specs.Readings.{Reading, line_by}
-use Rattle.plan.specs.Spelling.{Fields, Lines, Entry, row_entry, gust_entry, start_entry, keep_entry, steps_entry, loop_entries, begin_entries, tail_entries, entries, Square, KeptSound, AllSound, Sound, Spells}
-use Rattle.plan.specs.Values.{row_from, gust_from, start_from, late_from, keeping, stepping, row_of, gust_of, start_of, late_of}
+use Rattle.plan.specs.Plans.{Loop, Begin, Sheet, rows_at, loop_at, begin_at, tail_at, ended, plan_of}
+use Rattle.plan.specs.Readings.{line_by}
+use Rattle.plan.specs.Spelling.{Fields, Lines, Entry, row_entry, gust_entry, start_entry, keep_entry, steps_entry, loop_entries, begin_entries, tail_entries, Square, AllSound, Spells}
+use Rattle.plan.specs.Values.{row_from, gust_from, start_from, late_from, keeping, stepping, row_of, gust_of, start_of}
 use Rattle.plan.proofs.Full.{bind_at, four_is, two_is, rows_is, row_full, gust_full, start_full, keep_full, steps_full, line_full}
 use Rattle.plan.proofs.Tails.{more_steps, more_keep, last_steps}
 

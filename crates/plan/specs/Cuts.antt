@@ -1,5 +1,5 @@
 -- How a text is cut into lines, and a line into fields.
-use Rattle.std.specs.Prelude.{ℕ, ◌+◌, Bool, cond, List, [], ◌∷◌, length, drop, Some, None, Option, ◌==◌, nat_le}
+use Rattle.std.specs.Prelude.{ℕ, cond, List, [], ◌∷◌, length, drop, Some, None, Option, ◌==◌, nat_le}
 
 -- what stands before the first `stop`, or all
 abbrev pub until : ℕ → List ℕ → List ℕ

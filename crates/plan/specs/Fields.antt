@@ -1,5 +1,5 @@
 -- What single fields say.
-use Rattle.std.specs.Prelude.{ℕ, ◌+◌, ◌^◌, Bool, true, cond, ◌&&◌, ◌||◌, List, [], ◌∷◌, length, ℤ, pos, negsuc, neg_ℤ, Ok, Err, Result, int_lt, nat_le}
+use Rattle.std.specs.Prelude.{ℕ, ◌^◌, Bool, true, cond, ◌&&◌, ◌||◌, List, [], ◌∷◌, length, ℤ, pos, neg_ℤ, Ok, Err, Result, int_lt, nat_le}
 use Rattle.plan.specs.declared.faults.NumberFault.{NumberFault}
 use Rattle.plan.specs.declared.faults.FieldFault.{FieldFault}
 use Rattle.plan.specs.declared.faults.FieldFault.TheVariants.{Number, Label, Range}

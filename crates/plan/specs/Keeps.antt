@@ -1,5 +1,5 @@
 -- The keep-outs that a plan holds, as plain numbers and bytes.
-use Rattle.std.specs.Prelude.{ℕ, zero, suc, List, [], ◌∷◌, map, take, drop, ℤ, Some, None, Option}
+use Rattle.std.specs.Prelude.{ℕ, zero, suc, List, [], ◌∷◌, take, drop, ℤ, Some, None, Option}
 use Rattle.plan.specs.declared.keep.Keep.{Keep}
 use Rattle.plan.specs.declared.keep.Span.{Span}
 use Rattle.plan.specs.declared.keeps.Keeps.{Keeps}

@@ -1,6 +1,6 @@
 -- What the text of a field says as a number: the number, or the offset of the first byte that cannot
 -- stand (the text's length where more bytes are wanted).
-use Rattle.std.specs.Prelude.{ℕ, zero, suc, ◌+◌, ◌-◌, ◌*◌, Bool, cond, ◌&&◌, List, [], ◌∷◌, ℤ, pos, neg_ℤ, Ok, Err, Result, ◌==◌, nat_le, nat_lt}
+use Rattle.std.specs.Prelude.{ℕ, ◌+◌, ◌-◌, ◌*◌, Bool, cond, ◌&&◌, List, [], ◌∷◌, ℤ, pos, neg_ℤ, Ok, Err, Result, ◌==◌, nat_le, nat_lt}
 use Rattle.plan.specs.declared.faults.NumberFault.{NumberFault}
 
 abbrev pub fault_at : ℕ → ℕ → NumberFault

@@ -1,5 +1,5 @@
 -- Which record a line is: its kind, and the fields after its name.
-use Rattle.std.specs.Prelude.{ℕ, Bool, cond, List, [], ◌∷◌, length, Ok, Err, codes, Result, ◌==◌}
+use Rattle.std.specs.Prelude.{ℕ, cond, List, [], ◌∷◌, length, Ok, Err, codes, Result, ◌==◌}
 use Rattle.std.specs.Str.{bytes_eq}
 use Rattle.plan.specs.declared.faults.LineFault.{LineFault}
 use Rattle.plan.specs.declared.faults.LineFault.TheVariants.{Name, Crowded, Count}

@@ -1,7 +1,6 @@
 -- The lines of a report, and how a line goes into a buffer.
 use Rattle.std.specs.Prelude.{◌≡◌, ℕ, ◌+◌, ◌<◌, ◌≤◌, List, [], ◌∷◌, ◌++◌, map, length, take, drop, ℤ, Ok, Err, codes, decimal, Result}
 use Rattle.std.specs.Fmt.{signed_decimal}
-use Rattle.plan.specs.declared.faults.NumberFault.{NumberFault}
 use Rattle.plan.specs.declared.faults.FieldFault.TheVariants.{Number, Label, Range}
 use Rattle.plan.specs.declared.faults.LineFault.TheVariants.{NoEnd, Name, Crowded, Count, Field, Sum}
 use Rattle.plan.specs.declared.faults.Refusal.{Refusal}

@@ -1,5 +1,5 @@
 -- What values that borrow from the text hold, as plain lists.
-use Rattle.std.specs.Prelude.{ℕ, List, [], ◌∷◌, Ok, Err, Result}
+use Rattle.std.specs.Prelude.{ℕ, List, Ok, Err, Result}
 use Rattle.std.specs.Borrow.{Bor}
 
 -- a result shown by `show`

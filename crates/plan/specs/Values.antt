@@ -1,5 +1,5 @@
 -- What the lines of a plan say, each read by its record.
-use Rattle.std.specs.Prelude.{ℕ, ◌+◌, ◌^◌, Bool, cond, List, [], ◌∷◌, ℤ, Ok, Err, Result, slice_index_or, unsigned_abs}
+use Rattle.std.specs.Prelude.{ℕ, ◌+◌, ◌^◌, cond, List, [], ℤ, Ok, Err, Result, slice_index_or, unsigned_abs}
 use Rattle.dynamics.specs.declared.channel.Channel.{Channel}
 use Rattle.dynamics.specs.Ranges.{too_large}
 use Rattle.dynamics.specs.declared.keep_out.KeepOut.{KeepOut}

@@ -1,5 +1,5 @@
 -- A report line while it is made up.
-use Rattle.std.specs.Prelude.{◌≡◌, ℕ, ◌+◌, ◌≤◌, List, ◌++◌, length, take}
+use Rattle.std.specs.Prelude.{◌≡◌, ℕ, ◌+◌, List, ◌++◌, length, take}
 use Rattle.plan.specs.declared.line.Line.{Line}
 
 -- what was written so far

@@ -1,4 +1,6 @@
 //! A plan's text read into checked values, with every refusal, and the lines of a report.
+#![tactic(auto)]
+
 mod cuts;
 pub mod faults;
 mod fields;

@@ -1,6 +1,8 @@
 //! Reads a table of texts and of what the reader has to say of each, and counts those that agree.
 //! Byte 255 ends each text and each answer. A refusal is answered by its report line; a plan by a
 //! line of its steps and some of its numbers, and a line for each of its labels.
+#![tactic(auto)]
+
 ghost use Rattle.std.specs.Prelude.{◌≡◌, ◌≤◌, length, IfOk};
 
 use plan::keeps::Keeps;

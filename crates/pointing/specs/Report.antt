@@ -1,5 +1,5 @@
 -- The report of a run, and of a text that is refused.
-use Rattle.std.specs.Prelude.{◌≡◌, ℕ, zero, suc, ◌+◌, List, [], ◌++◌, take, Ok, Err, Result}
+use Rattle.std.specs.Prelude.{ℕ, zero, suc, ◌+◌, List, [], ◌++◌, take, Ok, Err, Result}
 use Rattle.dynamics.specs.declared.model.Model.{Model}
 use Rattle.domains.specs.Axes.{axis}
 use Rattle.domains.specs.Enclosure.{enclosed}

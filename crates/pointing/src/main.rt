@@ -1,5 +1,7 @@
 //! The program: the plan on standard input, run over the reduced product of zonotope and interval
 //! box, a line for each step.
+#![tactic(auto)]
+
 ghost use Rattle.std.specs.Prelude.{◌≡◌, ◌≤◌, ◌++◌, length, IfOk, OnOk};
 ghost use Rattle.domains.specs.Axes as axes;
 ghost use Rattle.domains.specs.Enclosure as spec;
@@ -63,7 +65,7 @@ fn interval_ends(intervals: [Interval; 4]) -> [i64; 8]
 /// Puts the line of a step: the interval of each part, or that a bound is absent.
 fn put_step<D: Domain>(out: &mut Writer, step: usize, domain: &D) -> Result<(), Full>
     ensures lent { out.new.buf.ghost_name ≡ out.old.buf.ghost_name }
-    ensures line { Puts (step_text step (spec.enclosed (λ a. sense.bounded (axes.axis a) (form domain.now)))) out.old out.new result }
+    ensures line { Puts (step_text step (spec.enclosed (λ a. D.sense.bounded (axes.axis a) (D.form domain.now)))) out.old out.new result }
 {
     match enclosure(domain) {
         None => out.unbounded(step),
@@ -78,7 +80,7 @@ fn put_run<D: Domain>(
     model: &Model,
     steps: usize,
 ) -> Result<(), Full>
-    ensures { OnOk result (reported out.new ≡ (reported out.old ++ form_text sense 0 (form domain.old)) ++ later_text sense model.now 0 steps (form domain.old)) }
+    ensures { OnOk result (reported out.new ≡ (reported out.old ++ form_text D.sense 0 (D.form domain.old)) ++ later_text D.sense model.now 0 steps (D.form domain.old)) }
 {
     put_step(out, 0, domain)?;
     for step in 0..steps {

@@ -1,7 +1,7 @@
 -- What a tube replies to the questions of a report, and the lines that its replies give.
-use Rattle.std.proofs.Common.{◌≡◌, ℕ, zero, suc, ◌+◌, ◌*◌, ◌^◌, ◌<◌, ◌≤◌, Bool, true, false, cond, ltb, List, [], ◌∷◌, ◌++◌, map, length, get_or, drop, ℤ, nat_abs, Option, sym, refl, ap, ◌∙◌, subst, ap₂, ⊎_elim, add-one, arith}
-use Rattle.std.proofs.lemmas.List.FromFn.{length-map-range_with_len, get_or-map-range_with_len}
-use Rattle.std.proofs.lemmas.List.{append_assoc, get_or_append_left, get_or-append-add, drop_at, length-append, length-map}
+use Rattle.std.proofs.Common.{◌≡◌, ℕ, zero, suc, ◌+◌, ◌*◌, ◌^◌, ◌<◌, ◌≤◌, Bool, true, false, cond, ltb, List, [], ◌∷◌, ◌++◌, map, length, get_or, nat_abs, sym, refl, ap, ◌∙◌, subst, ap₂, ⊎_elim, add-one, arith}
+use Rattle.std.proofs.lemmas.List.FromFn.{get_or-map-range_with_len}
+use Rattle.std.proofs.lemmas.List.{append_assoc, get_or_append_left, get_or-append-add, length-append}
 use Rattle.std.proofs.lemmas.Bool.{cond-true, lt-ltb, cases_lt}
 use Rattle.std.specs.List.{range_with_len, flat_map}
 use Rattle.dynamics.specs.declared.keep_out.KeepOut.{KeepOut}
@@ -14,10 +14,9 @@ use Rattle.tube.specs.declared.call.Call.TheVariants.{Step, Bound, Finding as As
 use Rattle.tube.specs.declared.call.Reply.{Reply}
 use Rattle.tube.specs.declared.call.Reply.TheVariants.{Watched, Stepped, Bounded, Found, Refused}
 use Rattle.tube.specs.declared.fault.Fault.TheVariants.{WatchLimit, StepLimit, NoKeepOut}
-use Rattle.tube.specs.declared.finding.Finding.{Finding}
-use Rattle.tube.specs.Calls.{Table, watched, watch_reply, watched_all, watch_replies, empty_table, begun, called, reply, after, replies}
+use Rattle.tube.specs.Calls.{Table, watched, watched_all, watch_replies, empty_table, begun, called, reply, after, replies}
 use Rattle.tube.specs.Flights.{Flight, stepped}
-use Rattle.tube.specs.Promise.{form_at, Kept}
+use Rattle.tube.specs.Promise.{form_at}
 use Rattle.tube.specs.Rows.{blank}
 use Rattle.tube.specs.Sequences.{ran, told}
 use Rattle.tube.proofs.Keeping.{watching, promise}

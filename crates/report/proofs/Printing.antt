@@ -1,5 +1,5 @@
 -- A page on which a writer put a report from its start on.
-use Rattle.std.proofs.Common.{◌≡◌, ℕ, ◌+◌, ◌<◌, ◌≤◌, List, [], ◌∷◌, ◌++◌, length, get_or, take, drop, Ok, Err, Result, sym, refl, ap, ◌∙◌, subst, arith}
+use Rattle.std.proofs.Common.{◌≡◌, ℕ, ◌≤◌, List, [], ◌∷◌, ◌++◌, length, take, drop, Ok, Err, Result, refl, ap, ◌∙◌, subst, arith}
 use Rattle.plan.specs.declared.writer.Full.{Full}
 use Rattle.plan.specs.declared.writer.Writer.{Writer}
 use Rattle.plan.specs.declared.faults.Refusal.{Refusal}

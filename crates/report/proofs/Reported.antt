@@ -1,9 +1,8 @@
 -- The lines that a tube's replies give are those of the report.
-use Rattle.std.proofs.Common.{◌≡◌, ℕ, zero, suc, ◌+◌, ◌*◌, ◌<◌, ◌≤◌, List, [], ◌∷◌, ◌++◌, map, length, get_or, drop, ℤ, Some, Option, sym, refl, ap, ◌∙◌, subst, ap₂, arith}
+use Rattle.std.proofs.Common.{◌≡◌, ℕ, zero, suc, ◌+◌, ◌*◌, ◌<◌, ◌≤◌, List, [], ◌∷◌, ◌++◌, map, length, get_or, drop, ℤ, Some, Option, sym, refl, ap, ◌∙◌, ap₂, arith}
 use Rattle.std.proofs.lemmas.List.FromFn.{length-map-range_with_len}
 use Rattle.std.proofs.lemmas.List.{append_assoc, get_or-append-add, drop_at, length-append, length-map, get_or-map, length-take}
 use Rattle.std.specs.List.{range_with_len, flat_map}
-use Rattle.dynamics.specs.declared.keep_out.KeepOut.{KeepOut}
 use Rattle.domains.specs.Axes.{axis}
 use Rattle.domains.specs.Meaning.{Meaning, Lawful}
 use Rattle.plan.specs.declared.keep.Keep.{Keep}
@@ -11,16 +10,15 @@ use Rattle.plan.specs.declared.plan.Plan.{Plan}
 use Rattle.plan.specs.Keeps.{kept_list}
 use Rattle.tube.specs.declared.call.Call.TheVariants.{Finding as Ask}
 use Rattle.tube.specs.declared.call.Reply.{Reply}
-use Rattle.tube.specs.declared.call.Reply.TheVariants.{Watched, Bounded, Found}
+use Rattle.tube.specs.declared.call.Reply.TheVariants.{Watched, Bounded}
 use Rattle.tube.specs.declared.finding.Finding.{Finding}
-use Rattle.tube.specs.Calls.{watched, watch_reply, watch_replies, empty_table, replies, reply, begun}
+use Rattle.tube.specs.Calls.{watched, watch_reply, watch_replies, empty_table, reply}
 use Rattle.tube.specs.Promise.{form_at}
 use Rattle.report.specs.Lines.{in_front, ends, step_text, keep_text}
 use Rattle.report.specs.Questions.{questions}
-use Rattle.report.specs.Replies.{bound_in, finding_in, reply_at, bounds_at, Limited, told_step, told_steps, told_keeps, told_lines, keep_outs, plan_replies}
+use Rattle.report.specs.Replies.{bound_in, finding_in, reply_at, bounds_at, Limited, told_step, told_keeps, told_lines, keep_outs, plan_replies}
 use Rattle.report.specs.Report.{bound_at, numbers_at, finding_of, lines_over}
 use Rattle.report.specs.Tasks.{Labelled, Task, labelled_in, plan_task}
-use Rattle.report.specs.Verdicts.{verdict}
 use Rattle.report.proofs.Answered as told
 
 -- ---- lists by their elements

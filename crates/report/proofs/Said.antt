@@ -1,14 +1,13 @@
 -- What the lines of a report say of permitted runs holds.
-use Rattle.std.proofs.Common.{◌≡◌, ℕ, zero, suc, ◌+◌, ◌*◌, ◌^◌, ◌<◌, ◌≤◌, List, [], ◌∷◌, ◌++◌, map, length, get_or, drop, ℤ, pos, neg_ℤ, ◌≤ℤ◌, Some, None, codes, decimal, Option, sym, refl, ap, ◌∙◌, subst, ap₂, arith, lit<}
+use Rattle.std.proofs.Common.{◌≡◌, ℕ, zero, suc, ◌+◌, ◌*◌, ◌<◌, ◌≤◌, List, [], ◌∷◌, ◌++◌, length, get_or, drop, ℤ, neg_ℤ, ◌≤ℤ◌, Some, None, codes, decimal, Option, sym, refl, ap, ◌∙◌, subst, arith}
 use borrow.Author.Differences.{ints}
 use Rattle.std.proofs.lemmas.List.FromFn.{length-map-range_with_len, get_or-map-range_with_len}
 use Rattle.std.proofs.lemmas.Fmt.{decimal_injective}
-use Rattle.std.proofs.lemmas.List.{append_assoc, append-nil, append_cancel_left, append_cancel_right, get_or_append_left, get_or-append-add, get_or-map}
+use Rattle.std.proofs.lemmas.List.{append-nil, append_cancel_left, append_cancel_right, get_or_append_left, get_or-append-add, get_or-map}
 use Rattle.arith.specs.Products.{dot}
 use Rattle.arith.specs.Sums.{part}
 use Rattle.arith.proofs.Bridge.{dot-left}
-use Rattle.dynamics.specs.KeepOuts.{Enters}
-use Rattle.dynamics.specs.Runs.{Run, state}
+use Rattle.dynamics.specs.Runs.{state}
 use Rattle.dynamics.specs.Values.{State, along}
 use Rattle.domains.specs.Axes.{signed, unit, axis}
 use Rattle.domains.specs.Meaning.{Answer, Lawful}
@@ -16,9 +15,9 @@ use Rattle.domains.specs.AxesLemmas.{unit-dot}
 use Rattle.domains.specs.BoxLaws.{box_lawful}
 use Rattle.layers.specs.ProductLaws.{product_lawful}
 use Rattle.zonotope.specs.Laws.{zonotope_lawful}
-use Rattle.plan.specs.Grammar.{tabs, line}
+use Rattle.plan.specs.Grammar.{tabs}
 use Rattle.plan.specs.Plans.{Sheet}
-use Rattle.plan.specs.Report.{step_line, clear_line, open_line}
+use Rattle.plan.specs.Report.{clear_line, open_line}
 use Rattle.plan.specs.Spelling.{Sound}
 use Rattle.tube.specs.declared.finding.Finding.{Finding}
 use Rattle.tube.specs.declared.finding.Finding.TheVariants.{Clear, Open}

@@ -1,5 +1,5 @@
 -- How long the lines of a report can be.
-use Rattle.std.proofs.Common.{◌≡◌, ℕ, zero, suc, ◌+◌, ◌*◌, ◌^◌, ◌<◌, ◌≤◌, true, ◌&&◌, leb, List, [], ◌∷◌, ◌++◌, map, length, get_or, take, ℤ, pos, negsuc, neg_ℤ, nat_abs, Some, None, codes, decimal, Option, sym, refl, ap, ◌∙◌, subst, arith}
+use Rattle.std.proofs.Common.{◌≡◌, ℕ, zero, suc, ◌+◌, ◌*◌, ◌^◌, ◌<◌, ◌≤◌, true, ◌&&◌, leb, List, [], ◌∷◌, map, length, get_or, take, ℤ, pos, negsuc, neg_ℤ, nat_abs, Some, None, codes, decimal, Option, refl, ap, arith}
 use borrow.Author.Differences.{ints}
 use Rattle.std.proofs.lemmas.Fmt.{length-decimal-le}
 use Rattle.std.proofs.lemmas.List.{length-append, length-map}
@@ -12,8 +12,8 @@ use Rattle.plan.specs.Fields.{is_label, all_plain}
 use Rattle.plan.specs.Grammar.{tabs, line}
 use Rattle.plan.specs.Keeps.{Kept}
 use Rattle.plan.specs.Plans.{Sheet}
-use Rattle.plan.specs.Report.{step_line, unbounded_line, clear_line, open_line, refused_line}
-use Rattle.plan.specs.Spelling.{KeptSound, AllSound, Sound}
+use Rattle.plan.specs.Report.{refused_line}
+use Rattle.plan.specs.Spelling.{AllSound, Sound}
 use Rattle.plan.specs.declared.told.Told.{Told}
 use Rattle.tube.specs.declared.finding.Finding.{Finding}
 use Rattle.tube.specs.declared.finding.Finding.TheVariants.{Clear, Open}
@@ -23,7 +23,6 @@ use Rattle.report.specs.Lines.{in_front, ends, step_text, keep_text}
 use Rattle.report.specs.Pages.{page_size}
 use Rattle.report.specs.Report.{bound_at, numbers_at, finding_of, step_lines, keep_lines, lines_over, bytes}
 use Rattle.report.specs.Tasks.{Labelled, Task, labelled, all_labelled, task}
-use Rattle.report.specs.Verdicts.{verdict}
 use Rattle.report.proofs.Found.{verdict-judged}
 use Rattle.report.proofs.Putting.{bytes-append}
 

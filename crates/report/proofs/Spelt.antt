@@ -1,19 +1,17 @@
 -- The values of a plan that was read are those of the plain plan that its text spells.
-use Rattle.std.proofs.Common.{◌≡◌, ℕ, ◌^◌, ◌≤◌, List, [], ◌∷◌, map, ℤ, nat_abs, sym, refl, ap, ◌∙◌, subst, ap₂}
+use Rattle.std.proofs.Common.{◌≡◌, ℕ, ◌^◌, ◌≤◌, List, [], ◌∷◌, map, nat_abs, sym, refl, subst, ap₂}
 use mathlib.Core.HLevel.{is_prop→PathP}
 use denote.Struct.Props.{props}
-use Rattle.dynamics.specs.declared.direction.Direction.{Direction}
 use Rattle.dynamics.specs.declared.keep_out.KeepOut.{KeepOut}
 use Rattle.dynamics.specs.declared.model.Model.{Model}
-use Rattle.dynamics.specs.declared.start.Start.{Start}
 use Rattle.dynamics.specs.Limits.{MatrixLimits, GustLimits}
 use Rattle.dynamics.proofs.Same.{direction_same, start_same}
 use Rattle.plan.specs.declared.keep.Keep.{Keep}
 use Rattle.plan.specs.declared.plan.Plan.{Plan}
-use Rattle.plan.specs.Keeps.{Kept, kept, kept_list}
+use Rattle.plan.specs.Keeps.{kept, kept_list}
 use Rattle.plan.specs.Plans.{Sheet, sheet}
 use Rattle.plan.specs.Spelling.{KeptSound, AllSound, Sound}
-use Rattle.report.specs.Tasks.{Labelled, Task, labelled, all_labelled, task, labelled_in, plan_task}
+use Rattle.report.specs.Tasks.{Labelled, labelled, all_labelled, task, labelled_in, plan_task}
 
 -- values with the same numbers are the same
 model_same : (a b : Model) → a.matrix ≡ b.matrix → a.gains ≡ b.gains → a.centres ≡ b.centres → a.radii ≡ b.radii → a ≡ b

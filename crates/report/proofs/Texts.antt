@@ -1,15 +1,15 @@
 -- The report of a text, by what its reader answered.
-use Rattle.std.proofs.Common.{◌≡◌, ℕ, ◌<◌, ◌≤◌, List, [], ◌∷◌, length, Ok, Err, Result, sym, refl, ap, ◌∙◌, subst, arith}
+use Rattle.std.proofs.Common.{◌≡◌, ℕ, ◌≤◌, List, [], ◌∷◌, length, Ok, Err, Result, sym, ap, ◌∙◌, subst, arith}
 use Rattle.std.proofs.lemmas.List.{append-nil}
 use Rattle.plan.specs.declared.faults.Refusal.{Refusal}
 use Rattle.plan.specs.declared.plan.Plan.{Plan}
 use Rattle.plan.specs.Plans.{Sheet, sheet, plan_of}
 use Rattle.plan.specs.Report.{told, refused_line}
-use Rattle.plan.specs.Spelling.{Answers, Spells}
+use Rattle.plan.specs.Spelling.{Answers}
 use Rattle.report.specs.Pages.{page_size}
 use Rattle.report.specs.Report.{report_lines, new_stack, bytes}
 use Rattle.report.specs.Reports.{Reports}
-use Rattle.report.specs.Tasks.{Task, task, plan_task}
+use Rattle.report.specs.Tasks.{Task, plan_task}
 use Rattle.report.proofs.Said.{stack_lawful, new_fits}
 use Rattle.report.proofs.Sizes.{report_short}
 use Rattle.report.proofs.Spelt.{task_is}

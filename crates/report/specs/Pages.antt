@@ -1,5 +1,5 @@
 -- What a page holds after a report was put on it.
-use Rattle.std.specs.Prelude.{◌≡◌, ℕ, ◌+◌, ◌<◌, ◌≤◌, List, [], ◌∷◌, ◌++◌, length, take, drop, Ok, Err, Result, slice_index_or}
+use Rattle.std.specs.Prelude.{◌≡◌, ℕ, ◌+◌, ◌<◌, ◌≤◌, List, [], ◌++◌, length, take, drop, Ok, Err, Result, slice_index_or}
 use Rattle.plan.specs.declared.writer.Full.{Full}
 use Rattle.plan.specs.declared.writer.Writer.{Writer}
 use Rattle.plan.specs.Report.{Added}

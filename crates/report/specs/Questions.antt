@@ -1,6 +1,6 @@
 -- What a report asks of a tube: the bounds of step 0 on the signed axes, for each later step a step
 -- and those bounds, and at the end each finding.
-use Rattle.std.specs.Prelude.{ℕ, List, [], ◌∷◌, ◌++◌, map}
+use Rattle.std.specs.Prelude.{ℕ, List, ◌∷◌, ◌++◌, map}
 use Rattle.std.specs.List.{range_with_len, flat_map}
 use Rattle.domains.specs.Axes.{axis}
 use Rattle.tube.specs.declared.call.Call.{Call}

@@ -1,5 +1,5 @@
 -- The lines that a tube's replies give, by their places in the list of replies.
-use Rattle.std.specs.Prelude.{ℕ, ◌+◌, ◌*◌, ◌^◌, ◌≤◌, List, [], ◌∷◌, ◌++◌, map, length, drop, ℤ, Some, None, Option, slice_index_or, unsigned_abs}
+use Rattle.std.specs.Prelude.{ℕ, ◌+◌, ◌*◌, ◌^◌, ◌≤◌, List, [], ◌∷◌, ◌++◌, map, length, drop, ℤ, None, Option, slice_index_or, unsigned_abs}
 use Rattle.std.specs.List.{range_with_len}
 use Rattle.tube.specs.declared.call.Reply.{Reply}
 use Rattle.tube.specs.declared.call.Reply.TheVariants.{Watched, Stepped, Bounded, Found, Refused}

@@ -1,6 +1,6 @@
 -- What stands on a page after the report of a text: that of the plan that the text spells, or the one
 -- line of its refusal.
-use Rattle.std.specs.Prelude.{◌≡◌, ℕ, List, [], ◌∷◌, Ok, Err, Result}
+use Rattle.std.specs.Prelude.{◌≡◌, ℕ, List, [], ◌∷◌, Err}
 use Rattle.plan.specs.declared.faults.Refusal.{Refusal}
 use Rattle.plan.specs.Plans.{Sheet, plan_of}
 use Rattle.plan.specs.Report.{told, refused_line}

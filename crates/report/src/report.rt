@@ -43,7 +43,7 @@ fn follow_plan<D: Domain + Drop>(
     plan: &Plan,
     domain: D,
 ) -> Result<Replies, AllocError>
-    ensures list { IfOk result (λ o. o.list.items ≡ plan_replies sense (form domain) plan.now) }
+    ensures list { IfOk result (λ o. o.list.items ≡ plan_replies D.sense (D.form domain) plan.now) }
     ensures at { IfOk result (λ o. o.at ≡ length (keep_outs plan.now)) }
 {
     let watches = keep_outs(heap, &plan.keeps)?;
@@ -89,7 +89,7 @@ fn put_plan<D: Domain + Drop>(
 ) -> Result<(), Fault>
     requires room { out.old.len ≤ length out.old.buf.now }
     ensures lent { out.new.buf.ghost_name ≡ out.old.buf.ghost_name }
-    ensures lines { PutsTask (Unit {0}) (lines_over sense (form domain) (plan_task text.now plan.now)) out.old out.new result }
+    ensures lines { PutsTask (Unit {0}) (lines_over D.sense (D.form domain) (plan_task text.now plan.now)) out.old out.new result }
 {
     let replies = follow_plan(heap, plan, domain)?;
     put_lines(out, text, plan, replies.list.as_slice(), replies.at)?;

@@ -1,5 +1,7 @@
 //! Reads a table of texts and of the report that each is to give, and counts those that agree.
 //! Byte 255 ends each text and each report.
+#![tactic(auto)]
+
 ghost use Rattle.std.specs.Prelude.{◌≡◌, ◌≤◌, T, length, IfOk};
 ghost use Rattle.report.specs.Report.{bytes};
 ghost use Rattle.report.specs.Reports.{Reports};

@@ -100,7 +100,7 @@ fn check_lines() -> Marks
     };
     marks.mark(Some(told_line(out.clear(b"stop")) == 0));
     marks.mark(Some(told_line(out.clear(b"stop")) == 14));
-    marks.mark(Some(out.text() == b"keep\tstop\tclear\n"));
+    marks.mark(Some(out.text() == b"keep\tstop\tclear\n".as_slice()));
     let mut short = [0u8; 15];
     let mut out = Writer {
         buf: &mut short,

@@ -52,7 +52,7 @@ fn check_step<D: Domain>(
 ) -> Tally
     requires { length directions.now ≤ 2 ^ 20 }
     ensures count { looked result ≡ length directions.now }
-    ensures value { result ≡ seen_in (λ l. sense.bounded l (form tube.now.domain)) step walks.now directions.now }
+    ensures value { result ≡ seen_in (λ l. D.sense.bounded l (D.form tube.now.domain)) step walks.now directions.now }
 {
     let mut tally = Tally::new();
     for direction in directions {

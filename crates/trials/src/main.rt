@@ -1,4 +1,6 @@
 //! Stored cases of every refusal, and random plans against simulated runs that the loop permits.
+#![tactic(auto)]
+
 mod calls;
 mod case;
 mod check;

@@ -37,9 +37,9 @@ fn watch_one<D: Domain>(tube: &mut Opened<D>, keep_out: &KeepOut) -> Reply
 
 /// Answers one call.
 fn answer<D: Domain>(tube: &mut Launched<D>, call: Call) -> Reply
-    ensures flight { record { form = form tube.new.domain; steps = tube.new.steps; count = tube.new.table.count; rows = tube.new.table.rows } ≡ called sense tube.old.model (record { form = form tube.old.domain; steps = tube.old.steps; count = tube.old.table.count; rows = tube.old.table.rows }) call }
+    ensures flight { record { form = D.form tube.new.domain; steps = tube.new.steps; count = tube.new.table.count; rows = tube.new.table.rows } ≡ called D.sense tube.old.model (record { form = D.form tube.old.domain; steps = tube.old.steps; count = tube.old.table.count; rows = tube.old.table.rows }) call }
     ensures model { tube.new.model ≡ tube.old.model }
-    ensures reply { result ≡ reply sense (record { form = form tube.old.domain; steps = tube.old.steps; count = tube.old.table.count; rows = tube.old.table.rows }) call }
+    ensures reply { result ≡ reply D.sense (record { form = D.form tube.old.domain; steps = tube.old.steps; count = tube.old.table.count; rows = tube.old.table.rows }) call }
 {
     match call {
         Call::Step => match tube.step() {
@@ -77,8 +77,8 @@ fn answer_all<D: Domain>(
     calls: &[Call],
     replies: &mut Vec<Reply>,
 ) -> Result<(), AllocError>
-    ensures flight { OnOk result (record { form = form tube.new.domain; steps = tube.new.steps; count = tube.new.table.count; rows = tube.new.table.rows } ≡ after sense tube.old.model (record { form = form tube.old.domain; steps = tube.old.steps; count = tube.old.table.count; rows = tube.old.table.rows }) calls.now) }
-    ensures replies { OnOk result (replies.new.items ≡ replies.old.items ++ answers sense tube.old.model (record { form = form tube.old.domain; steps = tube.old.steps; count = tube.old.table.count; rows = tube.old.table.rows }) calls.now) }
+    ensures flight { OnOk result (record { form = D.form tube.new.domain; steps = tube.new.steps; count = tube.new.table.count; rows = tube.new.table.rows } ≡ after D.sense tube.old.model (record { form = D.form tube.old.domain; steps = tube.old.steps; count = tube.old.table.count; rows = tube.old.table.rows }) calls.now) }
+    ensures replies { OnOk result (replies.new.items ≡ replies.old.items ++ answers D.sense tube.old.model (record { form = D.form tube.old.domain; steps = tube.old.steps; count = tube.old.table.count; rows = tube.old.table.rows }) calls.now) }
 {
     for call in calls {
         let reply = answer(tube, *call);
@@ -97,10 +97,10 @@ pub fn follow<D: Domain + Drop>(
     watches: &[KeepOut],
     calls: &[Call],
 ) -> Result<Followed, AllocError>
-    ensures promise { (k : ℕ) → Kept sense model start (form domain) watches.now (after sense model (begun sense start (form domain) watches.now) (take k calls.now)) }
+    ensures promise { (k : ℕ) → Kept D.sense model start (D.form domain) watches.now (after D.sense model (begun D.sense start (D.form domain) watches.now) (take k calls.now)) }
     ensures tight { TubeTight }
-    ensures replies { IfOk result (λ o. o.replies.items ≡ watch_replies empty_table watches.now ++ answers sense model (begun sense start (form domain) watches.now) calls.now) }
-    ensures summary { IfOk result (λ o. o.summary ≡ summary_of (after sense model (begun sense start (form domain) watches.now) calls.now)) }
+    ensures replies { IfOk result (λ o. o.replies.items ≡ watch_replies empty_table watches.now ++ answers D.sense model (begun D.sense start (D.form domain) watches.now) calls.now) }
+    ensures summary { IfOk result (λ o. o.summary ≡ summary_of (after D.sense model (begun D.sense start (D.form domain) watches.now) calls.now)) }
 {
     let mut replies = Vec::new(heap);
     let mut opened = Opened::open(model, start, domain);

@@ -11,7 +11,7 @@ use dynamics::direction::Direction;
 
 /// Whether a row that is judged now opens.
 fn must_open<D: Domain>(domain: &D, row: Row) -> bool
-    ensures { result ≡ spec.must_open (λ l. sense.bounded l (form domain.now)) row }
+    ensures { result ≡ spec.must_open (λ l. D.sense.bounded l (D.form domain.now)) row }
 {
     match row.finding {
         Finding::Open { .. } => return false,
@@ -29,7 +29,7 @@ fn must_open<D: Domain>(domain: &D, row: Row) -> bool
 /// Judges every watched keep-out at a step.
 pub(crate) fn judge<D: Domain>(domain: &D, table: &mut KeepOutTable, step: usize)
     ensures count { table.new.count ≡ table.old.count }
-    ensures rows { table.new.rows ≡ spec.judged (λ l. sense.bounded l (form domain.now)) step table.old.count table.old.rows }
+    ensures rows { table.new.rows ≡ spec.judged (λ l. D.sense.bounded l (D.form domain.now)) step table.old.count table.old.rows }
 {
     for n in 0..table.count() {
         let row = table.row(n);

@@ -25,7 +25,7 @@ pub struct Launched<D> {
 impl<D: Domain> Launched<D> {
     /// Advances the domain and judges the new step.
     pub fn step(&mut self) -> Result<(), Fault>
-        ensures flight { MatchResult result (λ _. (self.old.steps < 256) × (record { form = form self.new.domain; steps = self.new.steps; count = self.new.table.count; rows = self.new.table.rows } ≡ stepped sense self.old.model (record { form = form self.old.domain; steps = self.old.steps; count = self.old.table.count; rows = self.old.table.rows })) × (self.new.model ≡ self.old.model)) (λ e. (fault_number e ≡ 12) × (self.old.steps ≡ 256) × (self.new ≡ self.old)) }
+        ensures flight { MatchResult result (λ _. (self.old.steps < 256) × (record { form = D.form self.new.domain; steps = self.new.steps; count = self.new.table.count; rows = self.new.table.rows } ≡ stepped D.sense self.old.model (record { form = D.form self.old.domain; steps = self.old.steps; count = self.old.table.count; rows = self.old.table.rows })) × (self.new.model ≡ self.old.model)) (λ e. (fault_number e ≡ 12) × (self.old.steps ≡ 256) × (self.new ≡ self.old)) }
     {
         if self.steps >= 256 {
             return Err(Fault::StepLimit);
@@ -38,7 +38,7 @@ impl<D: Domain> Launched<D> {
 
     /// The domain's bound.
     pub fn bound(&self, direction: &Direction) -> Option<i64>
-        ensures { result ≡ sense.bounded direction.now (form self.now.domain) }
+        ensures { result ≡ D.sense.bounded direction.now (D.form self.now.domain) }
     {
         self.domain.bound(direction)
     }

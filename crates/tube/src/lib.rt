@@ -1,4 +1,6 @@
 //! The tube: a domain that follows a model from a start, and the keep-outs that it is held against.
+#![tactic(auto)]
+
 pub mod call;
 pub mod fault;
 pub mod finding;

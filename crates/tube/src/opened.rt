@@ -48,7 +48,7 @@ impl<D: Domain> Opened<D> {
 
     /// Fills the domain and judges step 0.
     pub fn launch(self) -> Launched<D>
-        ensures flight { record { form = form result.domain; steps = result.steps; count = result.table.count; rows = result.table.rows } ≡ launched sense self.start (form self.domain) self.table.count self.table.rows }
+        ensures flight { record { form = D.form result.domain; steps = result.steps; count = result.table.count; rows = result.table.rows } ≡ launched D.sense self.start (D.form self.domain) self.table.count self.table.rows }
         ensures model { result.model ≡ self.model }
     {
         let Opened {

@@ -1,4 +1,6 @@
 //! Tubes followed through lists of watches and calls, with figures worked out apart from the code.
+#![tactic(auto)]
+
 #[cfg(test)]
 mod edges;
 #[cfg(test)]

@@ -1,5 +1,7 @@
 //! A domain that is always unbounded: the crudest that the interface admits. It stands outside the
 //! supplied domains, and shows that others can be written against the interface alone.
+#![tactic(auto)]
+
 ghost use Rattle.std.specs.Prelude.{◌≡◌};
 ghost use Rattle.unbounded.specs.Everything.{everything};
 ghost use Rattle.std.proofs.Common.{rules};

@@ -1,5 +1,7 @@
 //! The zonotope domain: generators, the remainder of rounding, folding, and the spread that bounds
 //! how far its bound lies from the exact support number.
+#![tactic(auto)]
+
 mod advance;
 mod choice;
 mod extent;

@@ -3,7 +3,7 @@ ghost use Rattle.std.specs.Prelude.{◌≡◌, None};
 ghost use Rattle.dynamics.specs.Values.{along};
 ghost use Rattle.zonotope.specs.Domain as spec;
 ghost use Rattle.zonotope.specs.Forms.{form_of};
-ghost use Rattle.zonotope.specs.Tight.{Present, Tight, Tightness, after as spec-after};
+ghost use Rattle.zonotope.specs.Tight.{Present, Tight, Tightness, after as spec_after};
 ghost use Rattle.zonotope.specs.Laws.{zonotope_lawful};
 ghost use Rattle.std.proofs.Common.{rules};
 
@@ -34,7 +34,7 @@ impl Zonotope {
     /// a whole direction of any size is at least the exact support number, and exceeds it by no
     /// more than the spread's allowance.
     pub fn after(model: &Model, start: &Start, steps: usize) -> Zonotope
-        ensures form { form_of result.stored ≡ spec-after model.now start.now steps }
+        ensures form { form_of result.stored ≡ spec_after model.now start.now steps }
         ensures tight { Present (form_of result.stored) (Tight model.now start.now steps) }
     {
         let mut zonotope = Zonotope::new();

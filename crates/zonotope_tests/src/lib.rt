@@ -1,4 +1,6 @@
 //! Figures for the zonotope, reckoned apart from the code over unbounded whole numbers.
+#![tactic(auto)]
+
 #[cfg(test)]
 mod folding;
 #[cfg(test)]

@@ -1,4 +1,4 @@
-use Rattle.std.proofs.Common.{◌≡◌, refl}
+use Rattle.std.proofs.Common.{refl}
 use Rattle.figures.proofs.Small as small
 use Rattle.figures.proofs.Plan as plan
 use Rattle.figures.proofs.figures.Goals as goal

@@ -1,4 +1,4 @@
-use Rattle.std.proofs.Common.{◌≡◌, ℕ, ℤ, ap, ◌∙◌, w64, SFits, rules}
+use Rattle.std.proofs.Common.{ℕ, ◌∙◌, w64, SFits, rules}
 use Rattle.std.specs.Int.{int_wrap}
 use Rattle.arith.specs.Sums.{part, entry}
 use Rattle.arith.specs.Products.{times_column}
@@ -9,10 +9,10 @@ use Rattle.arith.proofs.kernel.gusts_times_column.Goals as goal
 pub returns : goal.returns
 returns c =
     let f = times_column 2 (entry c.args.b) (part c.args.d) in
-    let f0 : SFits w64 c.pair-product.result = search rules in
-    let f1 : SFits w64 c.pair-product-2.result = search rules in
-    let f2 : SFits w64 c.pair-product-3.result = search rules in
-    let f3 : SFits w64 c.pair-product-4.result = search rules in
+    let f0 : SFits w64 c.pair_product.result = search rules in
+    let f1 : SFits w64 c.pair_product-2.result = search rules in
+    let f2 : SFits w64 c.pair_product-3.result = search rules in
+    let f3 : SFits w64 c.pair_product-4.result = search rules in
     let e = four-listed (λ (k : ℕ). int_wrap w64 (f k)) f0 f1 f2 f3
-    c.pair-product.ensures.value c.pair-product-2.ensures.value c.pair-product-3.ensures.value c.pair-product-4.ensures.value in
+    c.pair_product.ensures.value c.pair_product-2.ensures.value c.pair_product-3.ensures.value c.pair_product-4.ensures.value in
     record { value = e; exact = λ h. e ∙ exact-listed 4 f h }

@@ -1,4 +1,4 @@
-use Rattle.std.proofs.Common.{◌≡◌, ℤ, pos, ◌+ℤ◌, ◌*ℤ◌, sym, ap, ◌∙◌, w64, SFits, rules}
+use Rattle.std.proofs.Common.{◌*ℤ◌, sym, ap, ◌∙◌, w64, SFits, rules}
 use Rattle.std.specs.Int.{int_wrap}
 use Rattle.std.proofs.lemmas.Int.{int_wrap_fits}
 use Rattle.arith.specs.Sums.{part, sum}

@@ -1,4 +1,4 @@
-use Rattle.std.proofs.Common.{◌≡◌, ℕ, ◌+◌, ◌*◌, ◌^◌, ◌≤◌, ℤ, pos, ◌-ℤ◌, neg_ℤ, nat_abs, Some, None, Option, sym, refl, ◌∙◌, subst, ap₂, arith, w64, SFits, rules}
+use Rattle.std.proofs.Common.{◌≡◌, ◌+◌, ◌*◌, ◌^◌, ◌≤◌, ℤ, pos, ◌-ℤ◌, neg_ℤ, nat_abs, Some, Option, sym, ◌∙◌, subst, ap₂, arith, w64, SFits, rules}
 use borrow.Author.Differences.{ints}
 use Rattle.arith.proofs.Bits.{back, back_is}
 use Rattle.domains.specs.declared.enclosure.Interval.{Interval}
@@ -18,6 +18,6 @@ pub returns : goal.returns
 returns g c =
     let f = g.D.Domain.form c.args.domain.now in
     let d = axis (2 * c.args.part + 1) in
-    let h : SFits w64 c.in-ok-high.high = search rules in
-    let k = subst (λ (o : Option ℤ). Answer o (λ b. nat_abs b ≤ 2 ^ 52)) (sym c.in-ok-low.ensures) (g.met.D.Domain.lawful.bound_limit d f (g.met.D.Domain.kept c.args.domain.now)) in
-    made c.in-ok-low.low c.in-ok-high.high k h c.in-ok-low.ensures c.in-ok-high.ensures
+    let h : SFits w64 c.in_ok-high.high = search rules in
+    let k = subst (λ (o : Option ℤ). Answer o (λ b. nat_abs b ≤ 2 ^ 52)) (sym c.in_ok-low.ensures) (g.met.D.Domain.lawful.bound_limit d f (g.met.D.Domain.kept c.args.domain.now)) in
+    made c.in_ok-low.low c.in_ok-high.high k h c.in_ok-low.ensures c.in_ok-high.ensures

@@ -10,9 +10,9 @@ loop-axis-init c = record { long = refl; stands = λ k h. absurd (omega arith) }
 
 pub loop-axis-preserved : goal.loop-axis-preserved
 loop-axis-preserved c =
-    let f : SFits w64 c.carried-limit.result = search rules in
+    let f : SFits w64 c.carried_limit.result = search rules in
     written-more 8 c.loop-axis.axis (λ (a : ℕ). carried c.args.model.now c.args.limits.upper (unit a)) c.loop-axis.upper c.loop-axis-test.true c.loop-axis.invariant
-    (back_is c.carried-limit.result f ∙ c.carried-limit.ensures)
+    (back_is c.carried_limit.result f ∙ c.carried_limit.ensures)
 
 pub returns : goal.returns
 returns c = written_all 8 c.loop-axis.axis (λ (a : ℕ). carried c.args.model.now c.args.limits.upper (unit a)) c.loop-axis.upper c.loop-axis-test.false c.loop-axis.invariant

@@ -1,6 +1,6 @@
-use Rattle.std.proofs.Common.{◌≡◌, ℕ, ◌^◌, ◌<◌, ◌≤◌, Bool, true, false, leb, List, ℤ, nat_abs, sym, refl, ap, arith, w64, SFits, rules, below_more, le-leb, leb-true}
-use Rattle.arith.specs.Sums.{part, every}
-use Rattle.arith.proofs.Bits.{back, back_is}
+use Rattle.std.proofs.Common.{◌≡◌, ℕ, ◌^◌, ◌<◌, Bool, true, false, leb, List, ℤ, nat_abs, sym, refl, arith, w64, SFits, rules, below_more, le-leb, leb-true}
+use Rattle.arith.specs.Sums.{part}
+use Rattle.arith.proofs.Bits.{back_is}
 use Rattle.arith.proofs.Sums.{every_at, at_every}
 use Rattle.domains.specs.Box.{within}
 use Rattle.domains.proofs.interval_box.is_within.Goals as goal
@@ -19,8 +19,8 @@ loop-axis-preserved c =
     let f : SFits w64 (part c.args.upper a) = search rules in
     below_more _ _ c.loop-axis.invariant (rw (← back_is (part c.args.upper a) f) (omega arith))
 
-pub returns-then-unsigned-abs-gt-LIMIT : goal.returns-then-unsigned-abs-gt-LIMIT
-returns-then-unsigned-abs-gt-LIMIT c =
+pub returns-then-unsigned_abs-gt-LIMIT : goal.returns-then-unsigned_abs-gt-LIMIT
+returns-then-unsigned_abs-gt-LIMIT c =
     let a = c.loop-axis.axis in
     let f : SFits w64 (part c.args.upper a) = search rules in
     let e = back_is (part c.args.upper a) f in

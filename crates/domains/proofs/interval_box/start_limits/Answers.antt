@@ -1,8 +1,8 @@
-use Rattle.std.proofs.Common.{◌≡◌, ℕ, ◌+◌, ◌/◌, ◌%◌, ◌^◌, ◌<◌, ◌≤◌, Bool, true, false, cond, eqb, List, ℤ, pos, ◌+ℤ◌, neg_ℤ, nat_abs, sym, refl, ap, ◌∙◌, arith, rules}
+use Rattle.std.proofs.Common.{◌≡◌, ℕ, ◌+◌, ◌/◌, ◌%◌, ◌^◌, ◌<◌, ◌≤◌, Bool, true, false, cond, eqb, List, ℤ, pos, ◌+ℤ◌, neg_ℤ, nat_abs, refl, ap, ◌∙◌, arith}
 use borrow.Author.Differences.{ints}
-use Rattle.arith.specs.Sums.{part, listed}
+use Rattle.arith.specs.Sums.{part}
 use Rattle.arith.proofs.Bits.{back}
-use Rattle.arith.proofs.Sums.{written-more, written_all, listed_at}
+use Rattle.arith.proofs.Sums.{written-more, written_all}
 use Rattle.dynamics.specs.declared.start.Start.{Start}
 use Rattle.dynamics.specs.Values.{centre, width}
 use Rattle.dynamics.proofs.Views.{width_is}
@@ -32,11 +32,11 @@ loop-axis-preserved c =
     (at_axis c.args.start.now c.loop-axis.axis c.centres-centres.result c.radii-radii.result c.signed.result c.loop-axis-test.true
     c.centres-centres.ensures c.radii-radii.ensures c.signed.ensures)
 
-pub invariant-of-result : goal.invariant-of-result
-invariant-of-result c = (
-  c.loop-axis.invariant.long,
-  (λ a h. rw (c.loop-axis.invariant.stands a (omega arith)) (start_limit_size c.args.start.now a h), tt),
-)
+pub invariant_of-result : goal.invariant_of-result
+invariant_of-result c = record {
+  eight = c.loop-axis.invariant.long;
+  small = λ a h. rw (c.loop-axis.invariant.stands a (omega arith)) (start_limit_size c.args.start.now a h);
+}
 
 pub returns : goal.returns
 returns c = written_all 8 c.loop-axis.axis (start_limit c.args.start.now) c.loop-axis.upper c.loop-axis-test.false c.loop-axis.invariant

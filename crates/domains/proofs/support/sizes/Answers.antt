@@ -1,4 +1,4 @@
-use Rattle.std.proofs.Common.{ℕ, ℤ, pos, nat_abs, w64, SFits, rules}
+use Rattle.std.proofs.Common.{ℕ, pos, nat_abs, w64, SFits, rules}
 use Rattle.arith.specs.Sums.{part}
 use Rattle.arith.proofs.Bridge.{four-listed}
 use Rattle.domains.proofs.Passed.{size_passed}

@@ -1,6 +1,6 @@
-use Rattle.std.proofs.Common.{◌≡◌, ℕ, ◌/◌, ◌%◌, ◌<◌, cond, eqb, List, [], ◌∷◌, length, get_or, set, ℤ, pos, negsuc, sym, refl, ap, ◌∙◌, arith, length-set, w64, SFits, rules, eq-eqb, ne_eqb}
+use Rattle.std.proofs.Common.{◌≡◌, ℕ, ◌/◌, ◌%◌, ◌<◌, cond, eqb, List, [], ◌∷◌, get_or, set, ℤ, pos, negsuc, sym, refl, ◌∙◌, arith, length-set, w64, SFits, rules, eq-eqb, ne_eqb}
 use Rattle.std.proofs.lemmas.Bool.{cond-true, cond-false}
-use Rattle.arith.specs.Sums.{listed, part}
+use Rattle.arith.specs.Sums.{listed}
 use Rattle.arith.proofs.Bits.{back_is}
 use Rattle.arith.proofs.Indices.{by4}
 use Rattle.arith.proofs.Sums.{listed_is, set_at}

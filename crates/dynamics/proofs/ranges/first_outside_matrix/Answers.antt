@@ -1,4 +1,4 @@
-use Rattle.std.proofs.Common.{◌≡◌, ℕ, ◌+◌, ◌*◌, ◌^◌, ◌<◌, Bool, List, [], ◌++◌, length, get_or, drop, ℤ, pos, sym, ap, ◌∙◌, arith, w64, SFits, rules}
+use Rattle.std.proofs.Common.{◌≡◌, ℕ, ◌+◌, ◌*◌, ◌^◌, ◌<◌, Bool, List, [], ◌++◌, get_or, drop, ℤ, pos, sym, ap, ◌∙◌, arith, w64, SFits, rules}
 use Rattle.arith.specs.Sums.{entry}
 use Rattle.arith.proofs.Bits.{back, back_is}
 use Rattle.dynamics.specs.declared.ranges.Ranged.{Ranged}
@@ -29,7 +29,7 @@ loop-j-preserved c =
     let j = c.loop-j.j in
     let n = row_length a i c.rows-test.true in
     let f : SFits w64 (entry a i j) = search rules in
-    let e = looked a i j c.rows-test.true c.loop-j-test.true f c.within.result c.within.ensures _ c.if-is-outside.ensures in
+    let e = looked a i j c.rows-test.true c.loop-j-test.true f c.within.result c.within.ensures _ c.if-is_outside.ensures in
     let q : 4 * i + (j + 1) ≡ 4 * i + j + 1 = omega arith in (
       c.loop-j.invariant.0,
       ap (λ k. first_outside k (drop (j + 1) (get_or g i []) ++ joined (drop (i + 1) g))) q
@@ -53,13 +53,13 @@ rows-preserved c =
 pub returns-after-rows : goal.returns-after-rows
 returns-after-rows c = c.rows.invariant.0 ∙ sym (rows_end (matrix_rows c.args.matrix) c.rows.i (4 * c.rows.i) c.rows-test.false) ∙ c.rows.invariant.1
 
-pub returns-then-is-outside : goal.returns-then-is-outside
-returns-then-is-outside c =
+pub returns-then-is_outside : goal.returns-then-is_outside
+returns-then-is_outside c =
     let a = c.args.matrix in
     let g = matrix_rows a in
     let i = c.rows.i in
     let j = c.loop-j.j in
     let n = row_length a i c.rows-test.true in
     let f : SFits w64 (entry a i j) = search rules in
-    let e = looked a i j c.rows-test.true c.loop-j-test.true f c.within.result c.within.ensures _ c.if-is-outside.ensures in
+    let e = looked a i j c.rows-test.true c.loop-j-test.true f c.within.result c.within.ensures _ c.if-is_outside.ensures in
     sym (number_bad (get_or g i []) (joined (drop (i + 1) g)) j (4 * i + j) (omega arith) e) ∙ c.loop-j.invariant.1

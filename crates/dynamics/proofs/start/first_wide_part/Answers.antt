@@ -16,11 +16,11 @@ loop-i-preserved c =
     let g : SFits w64 (part w i) = search rules in
     let n : 4 - i ≡ suc (4 - (i + 1)) = omega arith in
     let t = λ (k : ℕ). too_large (2 ^ 30) (part p k) (part w k) in
-    sym (ap (λ n. first_passing i n t) n ∙ cond-false _ _ _ (large_passed (2 ^ 30) (part p i) (part w i) f g c.if-is-too-large.ensures)) ∙ c.loop-i.invariant
+    sym (ap (λ n. first_passing i n t) n ∙ cond-false _ _ _ (large_passed (2 ^ 30) (part p i) (part w i) f g c.if-is_too_large.ensures)) ∙ c.loop-i.invariant
 
-pub returns-then-is-too-large : goal.returns-then-is-too-large
+pub returns-then-is_too_large : goal.returns-then-is_too_large
 unfolding first_passing
-returns-then-is-too-large c =
+returns-then-is_too_large c =
     let i = c.loop-i.i in
     let p = c.args.centres in
     let w = c.args.radii in
@@ -29,7 +29,7 @@ returns-then-is-too-large c =
     let n : 4 - i ≡ suc (4 - (i + 1)) = omega arith in
     let t = λ (k : ℕ). too_large (2 ^ 30) (part p k) (part w k) in
     record {
-      value = sym (ap (λ n. first_passing i n t) n ∙ cond-true _ _ _ (large_passed (2 ^ 30) (part p i) (part w i) f g c.if-is-too-large.ensures)) ∙ c.loop-i.invariant;
+      value = sym (ap (λ n. first_passing i n t) n ∙ cond-true _ _ _ (large_passed (2 ^ 30) (part p i) (part w i) f g c.if-is_too_large.ensures)) ∙ c.loop-i.invariant;
       below = c.loop-i-test.true;
     }
 

@@ -4,8 +4,8 @@ use Rattle.plan.specs.Cuts.{until}
 use Rattle.plan.proofs.Breaks.{until-within, take-until}
 use Rattle.plan.proofs.cuts.part.Goals as goal
 
-pub slice-bounds-result-end : goal.slice-bounds-result-end
-slice-bounds-result-end c =
+pub slice_bounds-result-end : goal.slice_bounds-result-end
+slice_bounds-result-end c =
     omega (arith, until-within c.args.stop (drop c.args.from c.args.text.now), length-drop c.args.from c.args.text.now)
 
 pub returns : goal.returns

@@ -1,4 +1,4 @@
-use Rattle.std.proofs.Common.{◌≡◌, ◌-◌, ◌^◌, ◌<◌, ◌≤◌, true, false, ◌&&◌, ltb, get_or, sym, refl, ◌∙◌, arith, rules}
+use Rattle.std.proofs.Common.{◌≡◌, ◌^◌, ◌<◌, false, ◌&&◌, ltb, get_or, sym, ◌∙◌, arith, rules}
 use Rattle.std.proofs.lemmas.Bool.Decides.{nat_tests}
 use Rattle.plan.specs.Numbers.{is_lead, is_digit}
 use Rattle.plan.proofs.Digits.{lead_past, lead_bad, lead_good, more_past, more_bad, more_good, is_lead_yes, digits_yes, more_fits, below_top}
@@ -22,11 +22,11 @@ pub returns-then-left-eq0 : goal.returns-then-left-eq0
 returns-then-left-eq0 c =
     record { value = let e : (ltb 0 c.loop-i.left && is_digit (get_or c.args.text.now c.loop-i.i 0)) ≡ false = grind (arith, nat_tests) in sym (more_bad c.args.field c.args.text.now c.loop-i.value c.loop-i.left c.loop-i.i (omega arith) e) ∙ c.loop-i.invariant.0; small = search rules }
 
-pub overflow-mul-value : goal.overflow-mul-value
-overflow-mul-value c = let h : c.loop-i.value < 10 ^ 15 = below_top _ _ 15 c.loop-i.invariant.2 (omega arith) in omega arith
+pub overflow_mul-value : goal.overflow_mul-value
+overflow_mul-value c = let h : c.loop-i.value < 10 ^ 15 = below_top _ _ 15 c.loop-i.invariant.2 (omega arith) in omega arith
 
-pub overflow-add-value : goal.overflow-add-value
-overflow-add-value c = let h : c.loop-i.value < 10 ^ 15 = below_top _ _ 15 c.loop-i.invariant.2 (omega arith) in omega arith
+pub overflow_add-value : goal.overflow_add-value
+overflow_add-value c = let h : c.loop-i.value < 10 ^ 15 = below_top _ _ 15 c.loop-i.invariant.2 (omega arith) in omega arith
 
 pub loop-i-preserved : goal.loop-i-preserved
 loop-i-preserved c = (

@@ -1,8 +1,7 @@
-use Rattle.std.proofs.Common.{◌≡◌, ℕ, ◌+◌, ◌<◌, ◌≤◌, ltb, List, [], ◌∷◌, length, drop, Ok, Err, Result, sym, ap, ◌∙◌, arith, Bor}
+use Rattle.std.proofs.Common.{◌≡◌, ℕ, ◌+◌, ◌<◌, ◌≤◌, ltb, List, length, drop, Ok, Err, sym, ap, ◌∙◌, Bor}
 use Rattle.std.proofs.lemmas.List.{at_drop_more, at_drop_all}
 use Rattle.std.proofs.lemmas.Bool.{cond-true, cond-false, le-ltb, lt-ltb}
 use Rattle.plan.specs.declared.faults.Refusal.TheVariants.{TooLong, Line, Following}
-use Rattle.plan.specs.Readings.{Reading, rest}
 use Rattle.plan.specs.Plans.{Sheet, sheet, sheet_at, at_end, ended, plan_of}
 use Rattle.plan.proofs.Law.{answers}
 use Rattle.plan.proofs.Texts.{text_read}

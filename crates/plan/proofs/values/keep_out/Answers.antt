@@ -1,14 +1,14 @@
 use Rattle.std.proofs.Common.{◌≡◌, ℕ, ◌^◌, ◌≤◌, ℤ, nat_abs, sym, subst, arith, w64, SFits, rules}
-use Rattle.arith.proofs.Bits.{back, back_is}
+use Rattle.arith.proofs.Bits.{back_is}
 use Rattle.plan.proofs.Inside.{entries-kept, within-kept}
 use Rattle.plan.proofs.values.keep_out.Goals as goal
 
 pub unreachable-requires : goal.unreachable-requires
 unreachable-requires c =
-    let t = c.in-ok-threshold.threshold in
+    let t = c.in_ok-threshold.threshold in
     let f : SFits w64 t = search rules in
-    let v = entries-kept c.args.a.now c.args.b.now c.args.c.now c.args.d.now c.in-ok-entries.entries (sym c.in-ok-entries.ensures) in
-    let h = within-kept 7 (2 ^ 52) c.args.threshold.now t (sym c.in-ok-threshold.ensures) in
+    let v = entries-kept c.args.a.now c.args.b.now c.args.c.now c.args.d.now c.in_ok-entries.entries (sym c.in_ok-entries.ensures) in
+    let h = within-kept 7 (2 ^ 52) c.args.threshold.now t (sym c.in_ok-threshold.ensures) in
     let none = c.in-Err.ensures.limits.1 (v, subst (λ (z : ℤ). nat_abs z ≤ 2 ^ 52) (sym (back_is t f)) h) in
     let some = c.in-Err.ensures.value in
     let z : ◌≡◌ {A = ℕ} 0 1 = cc in

@@ -1,4 +1,4 @@
-use Rattle.std.proofs.Common.{◌≡◌, ℕ, ◌+◌, ◌^◌, ◌<◌, ◌≤◌, true, false, List, ℤ, pos, ◌-ℤ◌, neg_ℤ, nat_abs, Ok, Err, Result, sym, ap, ◌∙◌, ap₂, arith, w64, SFits, to_z, of_z, rules}
+use Rattle.std.proofs.Common.{◌≡◌, ℕ, ◌+◌, ◌^◌, ◌<◌, ◌≤◌, List, ℤ, pos, ◌-ℤ◌, neg_ℤ, nat_abs, Ok, Result, sym, ap, ◌∙◌, ap₂, arith, w64, SFits, to_z, rules}
 use Rattle.std.proofs.lemmas.Int.{ints}
 use Rattle.std.proofs.lemmas.Result.{err_from_is_err_and}
 use Rattle.std.proofs.lemmas.Bool.{cond-true, cond-false, lt-ltb, le-ltb}
@@ -21,41 +21,41 @@ centred field limit text r h e = ap₂ (λ (l m : ℤ). ranged field l m text) (
 widened : (field limit : ℕ) (text : List ℕ) (r : Result ℤ FieldFault) → limit ≤ 2 ^ 30 → r ≡ ranged field (pos 0) (to_z w64 limit) text → up_to_field field limit text ≡ r
 widened field limit text r h e = ap (λ (m : ℤ). ranged field (pos 0) m text) (sym (high limit h)) ∙ sym e
 
-pub returns-in-err-centre : goal.returns-in-err-centre
-returns-in-err-centre c =
-    let p = err_from_is_err_and c.from-residual.result c.from-residual.ensures.1 in
-    let e = centred c.args.field c.args.limit c.args.centre.now _ c.requires.0 c.in-err-centre.ensures in
+pub returns-in_err-centre : goal.returns-in_err-centre
+returns-in_err-centre c =
+    let p = err_from_is_err_and c.from_residual.result c.from_residual.ensures.1 in
+    let e = centred c.args.field c.args.limit c.args.centre.now _ c.requires.0 c.in_err-centre.ensures in
     rw (p.1, p.2) (sym (ap (λ (r : Result ℤ FieldFault). together c.args.field c.args.limit r (up_to_field (c.args.field + 1) c.args.limit c.args.radius.now)) e))
 
-pub returns-in-err-radius : goal.returns-in-err-radius
-returns-in-err-radius c =
-    let p = err_from_is_err_and c.from-residual-in-err-radius.result c.from-residual-in-err-radius.ensures.1 in
-    let e = centred c.args.field c.args.limit c.args.centre.now _ c.requires.0 c.in-ok-centre.ensures in
-    let f = widened (c.args.field + 1) c.args.limit c.args.radius.now _ c.requires.0 c.in-err-radius.ensures in
+pub returns-in_err-radius : goal.returns-in_err-radius
+returns-in_err-radius c =
+    let p = err_from_is_err_and c.from_residual-in_err-radius.result c.from_residual-in_err-radius.ensures.1 in
+    let e = centred c.args.field c.args.limit c.args.centre.now _ c.requires.0 c.in_ok-centre.ensures in
+    let f = widened (c.args.field + 1) c.args.limit c.args.radius.now _ c.requires.0 c.in_err-radius.ensures in
     rw (p.1, p.2) (sym (ap₂ (together c.args.field c.args.limit) e f))
 
-pub returns-then-unsigned-abs-limit : goal.returns-then-unsigned-abs-limit
-returns-then-unsigned-abs-limit c =
-    let e = centred c.args.field c.args.limit c.args.centre.now _ c.requires.0 c.in-ok-centre.ensures in
-    let f = widened (c.args.field + 1) c.args.limit c.args.radius.now _ c.requires.0 c.in-ok-radius.ensures in
-    let p = c.in-ok-centre.centre in
-    let w = c.in-ok-radius.radius in
+pub returns-then-unsigned_abs-limit : goal.returns-then-unsigned_abs-limit
+returns-then-unsigned_abs-limit c =
+    let e = centred c.args.field c.args.limit c.args.centre.now _ c.requires.0 c.in_ok-centre.ensures in
+    let f = widened (c.args.field + 1) c.args.limit c.args.radius.now _ c.requires.0 c.in_ok-radius.ensures in
+    let p = c.in_ok-centre.centre in
+    let w = c.in_ok-radius.radius in
     let fp : SFits w64 p = search rules in
     let fw : SFits w64 w = search rules in
-    let a : c.unsigned-abs.result ≡ nat_abs p = c.unsigned-abs.ensures.value ∙ ap nat_abs (back_is p fp) in
-    let b : c.unsigned-abs-2.result ≡ nat_abs w = c.unsigned-abs-2.ensures.value ∙ ap nat_abs (back_is w fw) in
+    let a : c.unsigned_abs.result ≡ nat_abs p = c.unsigned_abs.ensures.value ∙ ap nat_abs (back_is p fp) in
+    let b : c.unsigned_abs-2.result ≡ nat_abs w = c.unsigned_abs-2.ensures.value ∙ ap nat_abs (back_is w fw) in
     let t : c.args.limit < nat_abs p + nat_abs w = omega arith in
     sym (ap₂ (together c.args.field c.args.limit) e f ∙ cond-true (too_large c.args.limit p w) _ _ (lt-ltb _ _ t))
 
 pub returns : goal.returns
 returns c =
-    let e = centred c.args.field c.args.limit c.args.centre.now _ c.requires.0 c.in-ok-centre.ensures in
-    let f = widened (c.args.field + 1) c.args.limit c.args.radius.now _ c.requires.0 c.in-ok-radius.ensures in
-    let p = c.in-ok-centre.centre in
-    let w = c.in-ok-radius.radius in
+    let e = centred c.args.field c.args.limit c.args.centre.now _ c.requires.0 c.in_ok-centre.ensures in
+    let f = widened (c.args.field + 1) c.args.limit c.args.radius.now _ c.requires.0 c.in_ok-radius.ensures in
+    let p = c.in_ok-centre.centre in
+    let w = c.in_ok-radius.radius in
     let fp : SFits w64 p = search rules in
     let fw : SFits w64 w = search rules in
-    let a : c.unsigned-abs.result ≡ nat_abs p = c.unsigned-abs.ensures.value ∙ ap nat_abs (back_is p fp) in
-    let b : c.unsigned-abs-2.result ≡ nat_abs w = c.unsigned-abs-2.ensures.value ∙ ap nat_abs (back_is w fw) in
+    let a : c.unsigned_abs.result ≡ nat_abs p = c.unsigned_abs.ensures.value ∙ ap nat_abs (back_is p fp) in
+    let b : c.unsigned_abs-2.result ≡ nat_abs w = c.unsigned_abs-2.ensures.value ∙ ap nat_abs (back_is w fw) in
     let t : nat_abs p + nat_abs w ≤ c.args.limit = omega arith in
     ap₂ (λ (x y : ℤ). Ok (x, y)) (back_is p fp) (back_is w fw) ∙ sym (ap₂ (together c.args.field c.args.limit) e f ∙ cond-false (too_large c.args.limit p w) _ _ (le-ltb _ _ t))

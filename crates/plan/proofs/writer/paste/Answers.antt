@@ -10,6 +10,6 @@ returns c =
     let line = c.args.line.now in
     let n = length line in
     let e : at + n - at ≡ n = omega arith in
-    ap (put_mid at (at + n - at) xs) c.copy-from-slice.ensures.after
+    ap (put_mid at (at + n - at) xs) c.copy_from_slice.ensures.after
     ∙ ap (λ k. take at xs ++ (line ++ drop k (drop at xs))) e
     ∙ ap (λ t. take at xs ++ (line ++ t)) (drop-drop n at xs)

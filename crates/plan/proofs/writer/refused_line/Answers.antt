@@ -1,6 +1,6 @@
-use Rattle.std.proofs.Common.{◌≡◌, ℕ, List, [], ◌∷◌, ◌++◌, codes, decimal, ap, ◌∙◌}
+use Rattle.std.proofs.Common.{ℕ, List, [], ◌∷◌, ◌++◌, codes, decimal, ap, ◌∙◌}
 use Rattle.plan.specs.Grammar.{tabs}
-use Rattle.plan.proofs.Writes.{more-more, more_same, from_new, field_more}
+use Rattle.plan.proofs.Writes.{more-more, more_same, field_more}
 use Rattle.plan.proofs.writer.refused_line.Goals as goal
 
 pub returns : goal.returns

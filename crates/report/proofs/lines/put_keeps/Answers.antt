@@ -1,4 +1,4 @@
-use Rattle.std.proofs.Common.{◌≡◌, ℕ, ◌+◌, ◌*◌, ◌<◌, List, length, sym, refl, ap, ◌∙◌, subst, arith}
+use Rattle.std.proofs.Common.{ℕ, List, refl, ◌∙◌, subst, arith}
 use Rattle.std.proofs.lemmas.Result.{err_from_is_err_and}
 use Rattle.plan.specs.Keeps.{kept_list}
 use Rattle.plan.specs.Report.{Added, KeptOut}
@@ -12,20 +12,20 @@ pub loop-n-init : goal.loop-n-init
 loop-n-init c = (none-put _ _ c.requires.room, refl)
 
 pub unreachable-requires : goal.unreachable-requires
-unreachable-requires c = omega (arith, keep_none (kept_list c.args.keeps.now) c.loop-n.n c.in-default.ensures, c.requires.whole, c.loop-n-test.true)
+unreachable-requires c = omega (arith, keep_none (kept_list c.args.keeps.now) c.loop-n.n c.in_default.ensures, c.requires.whole, c.loop-n-test.true)
 
-pub returns-in-err-put-keep : goal.returns-in-err-put-keep
-returns-in-err-put-keep c =
+pub returns-in_err-put_keep : goal.returns-in_err-put_keep
+returns-in_err-put_keep c =
     let ks = kept_list c.args.keeps.now in
     let lines = told_keeps c.args.text.now ks c.args.found.now in
     let n = c.loop-n.n in
     let e = keep_told c.args.text.now ks c.args.found.now n c.in-Some.keep _ _ c.in-Some.ensures c.part.ensures c.finding_in.ensures in
-    let q = subst (λ (t : List ℕ). KeptOut c.loop-n.out.buf.now c.loop-n.out.len t c.put-keep.new.out.buf.now c.put-keep.new.out.len) e c.in-err-put-keep.ensures.line in
-    let p = err_from_is_err_and c.from-residual.result c.from-residual.ensures.1 in
+    let q = subst (λ (t : List ℕ). KeptOut c.loop-n.out.buf.now c.loop-n.out.len t c.put_keep.new.out.buf.now c.put_keep.new.out.len) e c.in_err-put_keep.ensures.line in
+    let p = err_from_is_err_and c.from_residual.result c.from_residual.ensures.1 in
     let s = (keep_some ks n c.in-Some.keep c.in-Some.ensures).0 in
     rw p.1
     record {
-      lent = c.in-err-put-keep.ensures.lent ∙ c.loop-n.invariant.1;
+      lent = c.in_err-put_keep.ensures.lent ∙ c.loop-n.invariant.1;
       lines = not_put lines _ _ n _ _ c.loop-n.invariant.0 _ _ (omega (arith, keeps_length c.args.text.now ks c.args.found.now)) q;
     }
 
@@ -35,10 +35,10 @@ loop-n-preserved c =
     let lines = told_keeps c.args.text.now ks c.args.found.now in
     let n = c.loop-n.n in
     let e = keep_told c.args.text.now ks c.args.found.now n c.in-Some.keep _ _ c.in-Some.ensures c.part.ensures c.finding_in.ensures in
-    let q = subst (λ (t : List ℕ). Added c.loop-n.out.buf.now c.loop-n.out.len t c.put-keep.new.out.buf.now c.put-keep.new.out.len) e c.in-ok-put-keep.ensures.line in
+    let q = subst (λ (t : List ℕ). Added c.loop-n.out.buf.now c.loop-n.out.len t c.put_keep.new.out.buf.now c.put_keep.new.out.len) e c.in_ok-put_keep.ensures.line in
     let s = (keep_some ks n c.in-Some.keep c.in-Some.ensures).0 in (
       one-put lines _ _ n _ _ c.loop-n.invariant.0 _ _ (omega (arith, keeps_length c.args.text.now ks c.args.found.now)) q,
-      c.in-ok-put-keep.ensures.lent ∙ c.loop-n.invariant.1,
+      c.in_ok-put_keep.ensures.lent ∙ c.loop-n.invariant.1,
     )
 
 pub returns : goal.returns

@@ -1,4 +1,4 @@
-use Rattle.std.proofs.Common.{◌≡◌, ℕ, ◌+◌, ◌*◌, ◌<◌, List, length, sym, refl, ap, ◌∙◌, subst, arith}
+use Rattle.std.proofs.Common.{ℕ, List, refl, ◌∙◌, subst, arith}
 use Rattle.std.proofs.lemmas.Result.{err_from_is_err_and}
 use Rattle.plan.specs.Report.{Added, KeptOut}
 use Rattle.report.specs.Replies.{told_steps}
@@ -9,20 +9,20 @@ use Rattle.report.proofs.lines.put_steps.Goals as goal
 pub loop-step-init : goal.loop-step-init
 loop-step-init c = (none-put _ _ c.requires.room, refl)
 
-pub put-step-requires : goal.put-step-requires
-put-step-requires c = small_bounds c.args.replies.now _ c.requires.limited c.bounds_at.result c.bounds_at.ensures
+pub put_step-requires : goal.put_step-requires
+put_step-requires c = small_bounds c.args.replies.now _ c.requires.limited c.bounds_at.result c.bounds_at.ensures
 
-pub returns-in-err-put-step : goal.returns-in-err-put-step
-returns-in-err-put-step c =
+pub returns-in_err-put_step : goal.returns-in_err-put_step
+returns-in_err-put_step c =
     let rs = c.args.replies.now in
     let k = c.loop-step.step in
     let n = c.args.steps in
     let e = step_told rs c.args.at n k c.loop-step-test.true c.bounds_at.result c.bounds_at.ensures in
-    let q = subst (λ (t : List ℕ). KeptOut c.loop-step.out.buf.now c.loop-step.out.len t c.put-step.new.out.buf.now c.put-step.new.out.len) e c.in-err-put-step.ensures.line in
-    let p = err_from_is_err_and c.from-residual.result c.from-residual.ensures.1 in
+    let q = subst (λ (t : List ℕ). KeptOut c.loop-step.out.buf.now c.loop-step.out.len t c.put_step.new.out.buf.now c.put_step.new.out.len) e c.in_err-put_step.ensures.line in
+    let p = err_from_is_err_and c.from_residual.result c.from_residual.ensures.1 in
     rw p.1
     record {
-      lent = c.in-err-put-step.ensures.lent ∙ c.loop-step.invariant.1;
+      lent = c.in_err-put_step.ensures.lent ∙ c.loop-step.invariant.1;
       lines = not_put (told_steps rs c.args.at n) _ _ k _ _ c.loop-step.invariant.0 _ _ (omega (arith, steps_length rs c.args.at n, c.loop-step-test.true)) q;
     }
 
@@ -32,9 +32,9 @@ loop-step-preserved c =
     let k = c.loop-step.step in
     let n = c.args.steps in
     let e = step_told rs c.args.at n k c.loop-step-test.true c.bounds_at.result c.bounds_at.ensures in
-    let q = subst (λ (t : List ℕ). Added c.loop-step.out.buf.now c.loop-step.out.len t c.put-step.new.out.buf.now c.put-step.new.out.len) e c.in-ok-put-step.ensures.line in (
+    let q = subst (λ (t : List ℕ). Added c.loop-step.out.buf.now c.loop-step.out.len t c.put_step.new.out.buf.now c.put_step.new.out.len) e c.in_ok-put_step.ensures.line in (
       one-put (told_steps rs c.args.at n) _ _ k _ _ c.loop-step.invariant.0 _ _ (omega (arith, steps_length rs c.args.at n, c.loop-step-test.true)) q,
-      c.in-ok-put-step.ensures.lent ∙ c.loop-step.invariant.1,
+      c.in_ok-put_step.ensures.lent ∙ c.loop-step.invariant.1,
     )
 
 pub returns : goal.returns

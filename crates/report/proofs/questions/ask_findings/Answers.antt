@@ -4,4 +4,4 @@ use Rattle.report.proofs.Turns.{push_turn}
 use Rattle.report.proofs.questions.ask_findings.Goals as goal
 
 pub loop-n-preserved : goal.loop-n-preserved
-loop-n-preserved c = push_turn Ask (vec_items c.args.calls.now) _ _ c.loop-n.n _ c.loop-n.invariant c.in-ok-push.ensures.items refl
+loop-n-preserved c = push_turn Ask (vec_items c.args.calls.now) _ _ c.loop-n.n _ c.loop-n.invariant c.in_ok-push.ensures.items refl

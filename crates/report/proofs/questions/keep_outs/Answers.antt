@@ -1,4 +1,4 @@
-use Rattle.std.proofs.Common.{◌≡◌, ℕ, ap, ◌∙◌, arith}
+use Rattle.std.proofs.Common.{ap, ◌∙◌, arith}
 use Rattle.plan.specs.Keeps.{kept_list, keep_at}
 use Rattle.report.proofs.Listed.{keep_some, bare_turn, bare_end}
 use Rattle.report.proofs.questions.keep_outs.Goals as goal
@@ -6,15 +6,15 @@ use Rattle.report.proofs.questions.keep_outs.Goals as goal
 pub loop-keep-preserved : goal.loop-keep-preserved
 loop-keep-preserved c =
     let ks = kept_list c.args.keeps.now in
-    let p = c.in-ok-push.ensures in
+    let p = c.in_ok-push.ensures in
     bare_turn ks _ _ c.in-Some.keep _ _ (c.in-Some.ensures ∙ ap (keep_at ks) c.len.ensures) c.loop-keep.invariant p.items p.len
 
 pub loop-keep-smaller : goal.loop-keep-smaller
 loop-keep-smaller c =
     let ks = kept_list c.args.keeps.now in
-    omega (arith, (keep_some ks c.len.result c.in-Some.keep c.in-Some.ensures).0, c.in-ok-push.ensures.len, c.len.ensures)
+    omega (arith, (keep_some ks c.len.result c.in-Some.keep c.in-Some.ensures).0, c.in_ok-push.ensures.len, c.len.ensures)
 
 pub returns : goal.returns
 returns c =
     let ks = kept_list c.args.keeps.now in
-    bare_end ks _ _ (c.in-default.ensures ∙ ap (keep_at ks) c.len.ensures) c.loop-keep.invariant
+    bare_end ks _ _ (c.in_default.ensures ∙ ap (keep_at ks) c.len.ensures) c.loop-keep.invariant

@@ -1,4 +1,4 @@
-use Rattle.std.proofs.Common.{◌≡◌, ℕ, ◌+◌, ◌*◌, List, length, Ok, Err, Result, sym, refl, ap, ◌∙◌, subst, arith}
+use Rattle.std.proofs.Common.{◌≡◌, ℕ, List, length, Ok, Err, Result, sym, ap, ◌∙◌, subst, arith}
 use Rattle.std.proofs.lemmas.Result.{err_from_is_err_and}
 use Rattle.tube.specs.declared.call.Reply.{Reply}
 use Rattle.plan.specs.declared.plan.Plan.{Plan}
@@ -16,37 +16,37 @@ put_same : (text : List ℕ) (p : Plan) {rs rs' : List Reply} {at at' : ℕ} {li
 put_same text p e q l before after r h =
     subst (λ (ls : List (List ℕ)). PutsAll ls before after r) ((λ i. told_lines text (kept_list p.keeps) (e i) (q i) p.steps.count) ∙ l) h
 
-pub put-lines-requires : goal.put-lines-requires
-put-lines-requires g c =
-    let e = c.as-slice.ensures.value ∙ c.in-ok-replies.ensures.list in
+pub put_lines-requires : goal.put_lines-requires
+put_lines-requires g c =
+    let e = c.as_slice.ensures.value ∙ c.in_ok-replies.ensures.list in
     let laws = g.met.D.Domain.lawful in
     let f = g.D.Domain.form c.args.domain in
     let fits = g.met.D.Domain.kept c.args.domain in
     record {
       room = c.requires.room;
-      whole = omega (arith, replies-length laws f fits c.args.text.now c.args.plan.now, c.in-ok-replies.ensures.at, ap length e);
+      whole = omega (arith, replies-length laws f fits c.args.text.now c.args.plan.now, c.in_ok-replies.ensures.at, ap length e);
       limited = subst Limited (sym e) (replies_limited laws f fits c.args.text.now c.args.plan.now);
     }
 
 -- the lines of the replies are those of the report
-pub returns-in-err-put-lines : goal.returns-in-err-put-lines
-returns-in-err-put-lines g c =
-    let e = c.as-slice.ensures.value ∙ c.in-ok-replies.ensures.list in
+pub returns-in_err-put_lines : goal.returns-in_err-put_lines
+returns-in_err-put_lines g c =
+    let e = c.as_slice.ensures.value ∙ c.in_ok-replies.ensures.list in
     let f = g.D.Domain.form c.args.domain in
     let l = lines_are g.met.D.Domain.lawful f (g.met.D.Domain.kept c.args.domain) c.args.text.now c.args.plan.now in
-    let p = err_from_is_err_and c.from-residual-in-err-put-lines.result c.from-residual-in-err-put-lines.ensures.1 in
+    let p = err_from_is_err_and c.from_residual-in_err-put_lines.result c.from_residual-in_err-put_lines.ensures.1 in
     rw (p.1, p.2)
     record {
-      lent = c.in-err-put-lines.ensures.lent;
-      lines = put_same c.args.text.now c.args.plan.now e c.in-ok-replies.ensures.at l c.args.out.now c.put-lines.new.out (Err c.in-err-put-lines.field-0.0) c.in-err-put-lines.ensures.lines;
+      lent = c.in_err-put_lines.ensures.lent;
+      lines = put_same c.args.text.now c.args.plan.now e c.in_ok-replies.ensures.at l c.args.out.now c.put_lines.new.out (Err c.in_err-put_lines.field-0.0) c.in_err-put_lines.ensures.lines;
     }
 
 pub returns : goal.returns
 returns g c =
-    let e = c.as-slice.ensures.value ∙ c.in-ok-replies.ensures.list in
+    let e = c.as_slice.ensures.value ∙ c.in_ok-replies.ensures.list in
     let f = g.D.Domain.form c.args.domain in
     let l = lines_are g.met.D.Domain.lawful f (g.met.D.Domain.kept c.args.domain) c.args.text.now c.args.plan.now in
     record {
-      lent = c.in-ok-put-lines.ensures.lent;
-      lines = put_same c.args.text.now c.args.plan.now e c.in-ok-replies.ensures.at l c.args.out.now c.put-lines.new.out (Ok c.in-ok-put-lines.field-0) c.in-ok-put-lines.ensures.lines;
+      lent = c.in_ok-put_lines.ensures.lent;
+      lines = put_same c.args.text.now c.args.plan.now e c.in_ok-replies.ensures.at l c.args.out.now c.put_lines.new.out (Ok c.in_ok-put_lines.field-0) c.in_ok-put_lines.ensures.lines;
     }

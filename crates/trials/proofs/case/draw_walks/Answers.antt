@@ -17,7 +17,7 @@ loop-n-init c = (c.new-walks.ensures.len, subst (AllPermitted c.args.model.now c
 
 pub loop-n-preserved : goal.loop-n-preserved
 loop-n-preserved c = (
-  c.in-ok-push.ensures.len ∙ ap (λ (n : ℕ). n + 1) c.loop-n.invariant.0,
-  subst (AllPermitted c.args.model.now c.args.start.now) (sym c.in-ok-push.ensures.items)
-      (pushed c.args.model.now c.args.start.now (vec_items c.loop-n.walks) c.in-ok-draw.field-0 c.loop-n.invariant.1 c.in-ok-draw.ensures),
+  c.in_ok-push.ensures.len ∙ ap (λ (n : ℕ). n + 1) c.loop-n.invariant.0,
+  subst (AllPermitted c.args.model.now c.args.start.now) (sym c.in_ok-push.ensures.items)
+      (pushed c.args.model.now c.args.start.now (vec_items c.loop-n.walks) c.in_ok-draw.field-0 c.loop-n.invariant.1 c.in_ok-draw.ensures),
 )

@@ -8,7 +8,7 @@ use Rattle.trials.proofs.check.count_entering.Goals.{then-enters, else-enters}
 
 pub loop-walk-preserved : goal.loop-walk-preserved
 loop-walk-preserved c =
-    let o = c.args.keep-out.now in
+    let o = c.args.keep_out.now in
     let ws = c.args.walks.now in
     let i = c.loop-walk.walk-index in
     let w = c.walk-item.result in
@@ -16,15 +16,15 @@ loop-walk-preserved c =
     elim c.if-enters.branch [
       | then-enters v ↦ (
         counted (entering o) ws p (λ x xs. refl) i c.loop-walk.count c.if-enters.count 1 w c.loop-walk-test.true c.walk-item.is
-            (ap (λ (t : Bool). cond t 1 0) (sym c.enters.ensures ∙ v.if-enters.true)) c.loop-walk.invariant.0 v.count_is,
-        omega (arith, v.count_is),
+            (ap (λ (t : Bool). cond t 1 0) (sym c.enters.ensures ∙ v.if-enters.true)) c.loop-walk.invariant.0 v.count-is,
+        omega (arith, v.count-is),
       )
       | else-enters v ↦ (
         counted (entering o) ws p (λ x xs. refl) i c.loop-walk.count c.if-enters.count 0 w c.loop-walk-test.true c.walk-item.is
-            (ap (λ (t : Bool). cond t 1 0) (sym c.enters.ensures ∙ v.if-enters.false)) c.loop-walk.invariant.0 (omega (arith, v.count_is)),
-        omega (arith, v.count_is),
+            (ap (λ (t : Bool). cond t 1 0) (sym c.enters.ensures ∙ v.if-enters.false)) c.loop-walk.invariant.0 (omega (arith, v.count-is)),
+        omega (arith, v.count-is),
       )
     ]
 
 pub returns : goal.returns
-returns c = counted_all (entering c.args.keep-out.now) c.args.walks.now c.loop-walk.walk-index c.loop-walk.count c.loop-walk-test.false refl c.loop-walk.invariant.0
+returns c = counted_all (entering c.args.keep_out.now) c.args.walks.now c.loop-walk.walk-index c.loop-walk.count c.loop-walk-test.false refl c.loop-walk.invariant.0

@@ -21,13 +21,13 @@ loop-walk-preserved c =
     elim c.if-escapes.branch [
       | then-escapes v ↦ (
         counted (escaping l b k) ws p (λ x xs. refl) i c.loop-walk.count c.if-escapes.count 1 w c.loop-walk-test.true c.walk-item.is
-            (ap (λ (t : Bool). cond t 1 0) (sym is ∙ v.if-escapes.true)) c.loop-walk.invariant.0 v.count_is,
-        omega (arith, v.count_is),
+            (ap (λ (t : Bool). cond t 1 0) (sym is ∙ v.if-escapes.true)) c.loop-walk.invariant.0 v.count-is,
+        omega (arith, v.count-is),
       )
       | else-escapes v ↦ (
         counted (escaping l b k) ws p (λ x xs. refl) i c.loop-walk.count c.if-escapes.count 0 w c.loop-walk-test.true c.walk-item.is
-            (ap (λ (t : Bool). cond t 1 0) (sym is ∙ v.if-escapes.false)) c.loop-walk.invariant.0 (omega (arith, v.count_is)),
-        omega (arith, v.count_is),
+            (ap (λ (t : Bool). cond t 1 0) (sym is ∙ v.if-escapes.false)) c.loop-walk.invariant.0 (omega (arith, v.count-is)),
+        omega (arith, v.count-is),
       )
     ]
 

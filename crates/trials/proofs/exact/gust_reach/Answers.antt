@@ -12,19 +12,19 @@ returns c =
     let l = part c.args.l in
     let p = part c.centres-centres.result in
     let w = part c.radii-radii.result in
-    let g0 : SFits w128 c.in-ok-product.field-0 = search rules in
-    let g1 : SFits w128 c.in-ok-product-2.field-0 = search rules in
+    let g0 : SFits w128 c.in_ok-product.field-0 = search rules in
+    let g1 : SFits w128 c.in_ok-product-2.field-0 = search rules in
     let p0 : SFits w64 (p 0) = search rules in
     let p1 : SFits w64 (p 1) = search rules in
     let w0 : SFits w64 (w 0) = search rules in
     let w1 : SFits w64 (w 1) = search rules in
-    let f0 : SFits w128 c.in-ok-first.first = search rules in
-    let f1 : SFits w128 c.in-ok-second.second = search rules in
-    let e0 = wide_is _ g0 ∙ pushed_is m l 0 c.gains-b.ensures c.gust-column.ensures c.in-ok-product.ensures in
-    let e1 = wide_is _ g1 ∙ pushed_is m l 1 c.gains-b.ensures c.gust-column-2.ensures c.in-ok-product-2.ensures in
+    let f0 : SFits w128 c.in_ok-first.first = search rules in
+    let f1 : SFits w128 c.in_ok-second.second = search rules in
+    let e0 = wide_is _ g0 ∙ pushed_is m l 0 c.gains-b.ensures c.gust_column.ensures c.in_ok-product.ensures in
+    let e1 = wide_is _ g1 ∙ pushed_is m l 1 c.gains-b.ensures c.gust_column-2.ensures c.in_ok-product-2.ensures in
     let is = λ (j : ℕ). ap (λ (xs : List ℤ). part xs j) c.centres-centres.ensures in
     let wide = λ (j : ℕ). ap (λ (xs : List ℤ). part xs j) c.radii-radii.ensures in
-    is_as c.sum-of-two.result _ _ c.sum-of-two.ensures
+    is_as c.sum_of_two.result _ _ c.sum_of_two.ensures
     (gusts_are m l
-    (wide_is _ f0 ∙ channel_is e0 (back_is (p 0) p0 ∙ is 0) (back_is (w 0) w0 ∙ wide 0) (m.calm.0 0 (lit< tt)) c.in-ok-first.ensures)
-    (wide_is _ f1 ∙ channel_is e1 (back_is (p 1) p1 ∙ is 1) (back_is (w 1) w1 ∙ wide 1) (m.calm.0 1 (lit< tt)) c.in-ok-second.ensures))
+    (wide_is _ f0 ∙ channel_is e0 (back_is (p 0) p0 ∙ is 0) (back_is (w 0) w0 ∙ wide 0) (m.calm.0 0 (lit< tt)) c.in_ok-first.ensures)
+    (wide_is _ f1 ∙ channel_is e1 (back_is (p 1) p1 ∙ is 1) (back_is (w 1) w1 ∙ wide 1) (m.calm.0 1 (lit< tt)) c.in_ok-second.ensures))

@@ -16,11 +16,11 @@ returns c =
     let x1 : SFits w64 (x 1) = search rules in
     let x2 : SFits w64 (x 2) = search rules in
     let x3 : SFits w64 (x 3) = search rules in
-    let z0 : SFits w128 c.in-ok-first.first = search rules in
-    let z1 : SFits w128 c.in-ok-second.second = search rules in
-    let z2 : SFits w128 c.in-ok-third.third = search rules in
-    let z3 : SFits w128 c.in-ok-fourth.fourth = search rules in
-    is_as c.sum-of.result _ _ c.sum-of.ensures
+    let z0 : SFits w128 c.in_ok-first.first = search rules in
+    let z1 : SFits w128 c.in_ok-second.second = search rules in
+    let z2 : SFits w128 c.in_ok-third.third = search rules in
+    let z3 : SFits w128 c.in_ok-fourth.fourth = search rules in
+    is_as c.sum_of.result _ _ c.sum_of.ensures
     (four_summed (λ (i : ℕ). l i *ℤ x i)
-    (term_is c.in-ok-first.ensures l0 x0 z0) (term_is c.in-ok-second.ensures l1 x1 z1)
-    (term_is c.in-ok-third.ensures l2 x2 z2) (term_is c.in-ok-fourth.ensures l3 x3 z3))
+    (term_is c.in_ok-first.ensures l0 x0 z0) (term_is c.in_ok-second.ensures l1 x1 z1)
+    (term_is c.in_ok-third.ensures l2 x2 z2) (term_is c.in_ok-fourth.ensures l3 x3 z3))

@@ -14,10 +14,10 @@ returns c =
     let l1 : SFits w128 (l 1) = search rules in
     let l2 : SFits w128 (l 2) = search rules in
     let l3 : SFits w128 (l 3) = search rules in
-    let a0 : SFits w128 c.in-ok-checked-abs.field-0 = search rules in
-    let a1 : SFits w128 c.in-ok-checked-abs-2.field-0 = search rules in
-    let a2 : SFits w128 c.in-ok-checked-abs-3.field-0 = search rules in
-    let a3 : SFits w128 c.in-ok-checked-abs-4.field-0 = search rules in
+    let a0 : SFits w128 c.in_ok-checked_abs.field-0 = search rules in
+    let a1 : SFits w128 c.in_ok-checked_abs-2.field-0 = search rules in
+    let a2 : SFits w128 c.in_ok-checked_abs-3.field-0 = search rules in
+    let a3 : SFits w128 c.in_ok-checked_abs-4.field-0 = search rules in
     four-wide (λ (i : ℕ). pos (nat_abs (l i))) a0 a1 a2 a3
-    (sized c.in-ok-checked-abs.ensures.1 l0) (sized c.in-ok-checked-abs-2.ensures.1 l1)
-    (sized c.in-ok-checked-abs-3.ensures.1 l2) (sized c.in-ok-checked-abs-4.ensures.1 l3)
+    (sized c.in_ok-checked_abs.ensures.1 l0) (sized c.in_ok-checked_abs-2.ensures.1 l1)
+    (sized c.in_ok-checked_abs-3.ensures.1 l2) (sized c.in_ok-checked_abs-4.ensures.1 l3)

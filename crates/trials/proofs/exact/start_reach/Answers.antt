@@ -10,9 +10,9 @@ pub returns : goal.returns
 returns c =
     let l = part c.args.l in
     let s = c.args.start.now in
-    let f : SFits w128 c.in-ok-middle.middle = search rules in
-    let g : SFits w128 c.in-ok-wide.wide = search rules in
-    is_as c.sum-of-two.result _ _ c.sum-of-two.ensures
+    let f : SFits w128 c.in_ok-middle.middle = search rules in
+    let g : SFits w128 c.in_ok-wide.wide = search rules in
+    is_as c.sum_of_two.result _ _ c.sum_of_two.ensures
     (ap₂ ◌+ℤ◌
-    (wide_is _ f ∙ c.in-ok-middle.ensures ∙ ap (λ (xs : List ℤ). dot l (part xs)) c.centres.ensures)
-    (wide_is _ g ∙ sizes_are s l c.in-ok-sizes.ensures c.radii.ensures c.in-ok-wide.ensures))
+    (wide_is _ f ∙ c.in_ok-middle.ensures ∙ ap (λ (xs : List ℤ). dot l (part xs)) c.centres.ensures)
+    (wide_is _ g ∙ sizes_are s l c.in_ok-sizes.ensures c.radii.ensures c.in_ok-wide.ensures))

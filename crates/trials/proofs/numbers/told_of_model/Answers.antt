@@ -9,8 +9,8 @@ pub returns : goal.returns
 unfolding ModelTold
 returns c =
     let z = c.args.numbers in
-    let n = c.told-of.result.0 in
-    let p = c.told-of.result.1 in
+    let n = c.told_of.result.0 in
+    let p = c.told_of.result.1 in
     let rows = c.four.result ∷ (c.four-2.result ∷ (c.four-3.result ∷ (c.four-4.result ∷ []))) in
     let first = c.channel.result in
     let second = c.channel-2.result in
@@ -22,4 +22,4 @@ returns c =
     subst (λ (m : List (List ℤ)). ToldAs (model_refusal m (channel_of z 16) (channel_of z 22)) n p) a
     (subst (λ (u : Channel). ToldAs (model_refusal rows u (channel_of z 22)) n p) b
     (subst (λ (v : Channel). ToldAs (model_refusal rows first v) n p) d
-    (told_as c.new.result (model_refusal rows first second) n p _ (λ m h. h.0) c.new.ensures.value c.told-of.ensures)))
+    (told_as c.new.result (model_refusal rows first second) n p _ (λ m h. h.0) c.new.ensures.value c.told_of.ensures)))

@@ -14,8 +14,8 @@ pub returns : goal.returns
 unfolding StartTold
 returns c =
     let z = part c.args.n in
-    let n = c.told-of.result.0 in
-    let p = c.told-of.result.1 in
+    let n = c.told_of.result.0 in
+    let p = c.told_of.result.1 in
     let f0 : SFits w64 (z 0) = search rules in
     let f1 : SFits w64 (z 1) = search rules in
     let f2 : SFits w64 (z 2) = search rules in
@@ -28,4 +28,4 @@ returns c =
     let vs = back (z 1) ∷ (back (z 3) ∷ (back (z 5) ∷ (back (z 7) ∷ []))) in
     subst (λ (w : List ℤ). ToldAs (start_refusal w (z 1 ∷ (z 3 ∷ (z 5 ∷ (z 7 ∷ []))))) n p) (four (z 0) (z 2) (z 4) (z 6) f0 f2 f4 f6)
     (subst (λ (w : List ℤ). ToldAs (start_refusal us w) n p) (four (z 1) (z 3) (z 5) (z 7) f1 f3 f5 f7)
-    (told_as c.new.result (start_refusal us vs) n p _ (λ s h. h.0) c.new.ensures.value c.told-of.ensures))
+    (told_as c.new.result (start_refusal us vs) n p _ (λ s h. h.0) c.new.ensures.value c.told_of.ensures))

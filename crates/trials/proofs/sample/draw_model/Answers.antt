@@ -6,7 +6,7 @@ use Rattle.trials.proofs.sample.draw_model.Goals as goal
 
 pub returns : goal.returns
 returns c =
-    let a = c.draw-channel-first.result in
-    let b = c.draw-channel-second.result in
+    let a = c.draw_channel-first.result in
+    let b = c.draw_channel-second.result in
     gust_sizes c.new.result (gust_size c.args.kind) (a.centre ∷ (b.centre ∷ [])) (a.radius ∷ (b.radius ∷ [])) _ _ (λ m h. (h.3, h.4)) c.new.ensures.value
-    (by2 _ c.draw-channel-first.ensures.1 c.draw-channel-second.ensures.1)
+    (by2 _ c.draw_channel-first.ensures.1 c.draw_channel-second.ensures.1)

@@ -24,10 +24,10 @@ returns c =
     let d = along c.args.direction.now in
     let m = c.args.case.now.model in
     let s = c.args.case.now.start in
-    let f : SFits w128 c.in-ok-exact.exact = search rules in
-    let g : SFits w64 c.in-ok-bound.field-0 = search rules in
-    let h : SFits w64 c.in-ok-allowance.field-0 = search rules in
-    let e = wide_is _ f ∙ c.in-ok-exact.ensures ∙ ap (λ (xs : List ℤ). exact m s c.args.k (part xs)) c.widened.ensures
+    let f : SFits w128 c.in_ok-exact.exact = search rules in
+    let g : SFits w64 c.in_ok-bound.field-0 = search rules in
+    let h : SFits w64 c.in_ok-allowance.field-0 = search rules in
+    let e = wide_is _ f ∙ c.in_ok-exact.ensures ∙ ap (λ (xs : List ℤ). exact m s c.args.k (part xs)) c.widened.ensures
     ∙ exact_ext m s c.args.k (part (listed 4 d)) d (λ i q. listed_at 4 d (pos 0) i q) in
-    answer c.is-between.result c.args.k (exact m s c.args.k d) c.in-ok-bound.field-0 c.in-ok-allowance.field-0 c.is-between.ensures
-    e (back_is _ g) (back_is _ h) c.in-ok-bound.was c.in-ok-allowance.was
+    answer c.is_between.result c.args.k (exact m s c.args.k d) c.in_ok-bound.field-0 c.in_ok-allowance.field-0 c.is_between.ensures
+    e (back_is _ g) (back_is _ h) c.in_ok-bound.was c.in_ok-allowance.was

@@ -35,8 +35,8 @@ all c =
     let b : wide c.from-2.result ≡ c.args.x = wide_is c.from-2.result h ∙ c.from-2.ensures ∙ back_is c.args.x f in
     multiplied c.from.result c.from-2.result c.args.l c.args.x a b c.requires (sized c.args.x f)
 
-pub overflow-mul-result : goal.overflow-mul-result
-overflow-mul-result c = (all c).ranges
+pub overflow_mul-result : goal.overflow_mul-result
+overflow_mul-result c = (all c).fits
 
 pub returns : goal.returns
 returns c =

@@ -45,7 +45,7 @@ returns c =
     let p1 : SFits w128 c.product-2.result = search rules in
     let p2 : SFits w128 c.product-3.result = search rules in
     let p3 : SFits w128 c.product-4.result = search rules in
-    let s : SFits w128 c.sum-of.result = search rules in
-    wide_is c.sum-of.result s ∙ c.sum-of.ensures
+    let s : SFits w128 c.sum_of.result = search rules in
+    wide_is c.sum_of.result s ∙ c.sum_of.ensures
     ∙ four_summed (λ (i : ℕ). along d i *ℤ x i) (one d l x 0 e l0 x0 p0 c.product.ensures.value) (one d l x 1 e l1 x1 p1 c.product-2.ensures.value)
     (one d l x 2 e l2 x2 p2 c.product-3.ensures.value) (one d l x 3 e l3 x3 p3 c.product-4.ensures.value)

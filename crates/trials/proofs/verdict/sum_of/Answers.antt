@@ -30,14 +30,14 @@ third c =
     added (wide (wide c.args.a +ℤ wide c.args.b) +ℤ wide c.args.c) c.args.d (c.args.a +ℤ c.args.b +ℤ c.args.c) (2 ^ 83 + 2 ^ 83 + 2 ^ 83)
     c.ranges.d (second c).is (second c).small (lit≤ tt) c.requires.1.1.1
 
-pub overflow-add-result : goal.overflow-add-result
-overflow-add-result c = (first c).ranges
+pub overflow_add-result : goal.overflow_add-result
+overflow_add-result c = (first c).fits
 
-pub overflow-add-result-2 : goal.overflow-add-result-2
-overflow-add-result-2 c = (second c).ranges
+pub overflow_add-result-2 : goal.overflow_add-result-2
+overflow_add-result-2 c = (second c).fits
 
-pub overflow-add-result-3 : goal.overflow-add-result-3
-overflow-add-result-3 c = (third c).ranges
+pub overflow_add-result-3 : goal.overflow_add-result-3
+overflow_add-result-3 c = (third c).fits
 
 pub returns : goal.returns
 returns c = (third c).is

@@ -11,7 +11,7 @@ loop-walk-preserved c =
     let ws = c.args.walks.now in
     let i = c.loop-walk.walk-index in
     let w = c.walk-item.result in
-    c.saturating-add-count.ensures
+    c.saturating_add-count.ensures
     ∙ ap₂ capped c.loop-walk.invariant (c.len.ensures ∙ ap (λ (v : Walk). vec_len v.states) c.walk-item.is)
     ∙ sym (fold_more (λ (n : ℕ) (v : Walk). capped n (vec_len v.states)) 0 ws i w c.loop-walk-test.true)
 

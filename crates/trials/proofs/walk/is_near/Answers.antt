@@ -19,8 +19,8 @@ loop-i-preserved c =
     let f : SFits w64 (part c.args.x i) = search rules in
     below_more _ _ c.loop-i.invariant (rw (← back_is (part c.args.x i) f) (omega arith))
 
-pub returns-then-unsigned-abs-gt-FAR : goal.returns-then-unsigned-abs-gt-FAR
-returns-then-unsigned-abs-gt-FAR c =
+pub returns-then-unsigned_abs-gt-FAR : goal.returns-then-unsigned_abs-gt-FAR
+returns-then-unsigned_abs-gt-FAR c =
     let i = c.loop-i.i in
     let f : SFits w64 (part c.args.x i) = search rules in
     let e = back_is (part c.args.x i) f in

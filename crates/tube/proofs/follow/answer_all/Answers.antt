@@ -15,7 +15,7 @@ loop-call-preserved g c =
     let f = c.answer-reply.ensures.flight ∙ ap (λ (n : Model). called d n t k) c.loop-call.invariant.2 in (
       ran_turn (called d m) (reply d) c.args.calls.now i _ _ _ k c.loop-call-test.true c.call-item.is f c.loop-call.invariant.0,
       told_turn (called d m) (reply d) c.args.calls.now i _ _ k c.answer-reply.result _ _ _ c.loop-call-test.true c.call-item.is f c.answer-reply.ensures.reply
-          c.in-ok-push.ensures.items c.loop-call.invariant.1,
+          c.in_ok-push.ensures.items c.loop-call.invariant.1,
       c.answer-reply.ensures.model ∙ c.loop-call.invariant.2,
     )
 

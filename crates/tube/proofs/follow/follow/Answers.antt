@@ -14,20 +14,20 @@ use Rattle.tube.proofs.Formed.{tube_tight}
 use Rattle.tube.proofs.Keeping.{promise}
 use Rattle.tube.proofs.follow.follow.Goals as goal
 
-pub returns-in-err-watch-all : goal.returns-in-err-watch-all
-returns-in-err-watch-all g c = record {
+pub returns-in_err-watch_all : goal.returns-in_err-watch_all
+returns-in_err-watch_all g c = record {
   promise = λ k. promise g.met.D.Domain.lawful c.args.model c.args.start (g.D.Domain.form c.args.domain) (g.met.D.Domain.kept c.args.domain) c.args.watches.now (take k c.args.calls.now);
   tight = tube_tight;
-  replies = IfOk-from_err c.from-residual.result _ c.from-residual.ensures.0;
-  summary = IfOk-from_err c.from-residual.result _ c.from-residual.ensures.0;
+  replies = IfOk-from_err c.from_residual.result _ c.from_residual.ensures.0;
+  summary = IfOk-from_err c.from_residual.result _ c.from_residual.ensures.0;
 }
 
-pub returns-in-err-answer-all : goal.returns-in-err-answer-all
-returns-in-err-answer-all g c = record {
+pub returns-in_err-answer_all : goal.returns-in_err-answer_all
+returns-in_err-answer_all g c = record {
   promise = λ k. promise g.met.D.Domain.lawful c.args.model c.args.start (g.D.Domain.form c.args.domain) (g.met.D.Domain.kept c.args.domain) c.args.watches.now (take k c.args.calls.now);
   tight = tube_tight;
-  replies = IfOk-from_err c.from-residual-in-err-answer-all.result _ c.from-residual-in-err-answer-all.ensures.0;
-  summary = IfOk-from_err c.from-residual-in-err-answer-all.result _ c.from-residual-in-err-answer-all.ensures.0;
+  replies = IfOk-from_err c.from_residual-in_err-answer_all.result _ c.from_residual-in_err-answer_all.ensures.0;
+  summary = IfOk-from_err c.from_residual-in_err-answer_all.result _ c.from_residual-in_err-answer_all.ensures.0;
 }
 
 -- a table by its two parts
@@ -45,8 +45,8 @@ returns g c =
     let ks = c.args.watches.now in
     let cs = c.args.calls.now in
     let o = c.open-opened.ensures in
-    let w = c.in-ok-watch-all.ensures in
-    let a = c.in-ok-answer-all.ensures in
+    let w = c.in_ok-watch_all.ensures in
+    let a = c.in_ok-answer_all.ensures in
     let t0 = same_table o.3 o.4 in
     let t = w.table ∙ ap (λ (t : Table). watched_all t ks) t0 in
     let u = begun_is d c.args.start (g.D.Domain.form c.args.domain) ks c.launch-tube.ensures.flight (w.others.1 ∙ o.1) (ap g.D.Domain.form (w.others.2 ∙ o.2)) t in

@@ -25,16 +25,16 @@ compared t b f g = ap₂ le_z (back_is t f) (back_is b g) ∙ at_least t b
 made : (r : Row) (d : Direction) → d.entries ≡ r.entries → direction_of r.entries ≡ Some d
 made r d e = ap direction_of (sym e) ∙ direction_made d
 
-pub returns-in-default : goal.returns-in-default
-returns-in-default g c =
+pub returns-in_default : goal.returns-in_default
+returns-in_default g c =
     opens (λ (l : Direction). g.D.Domain.sense.bounded l (g.D.Domain.form c.args.domain.now)) c.args.row None c.in-Clear.is
-    (direction_none c.args.row.entries _ c.in-default.ensures.value)
+    (direction_none c.args.row.entries _ c.in_default.ensures.value)
 
-pub returns-in-default-bound : goal.returns-in-default-bound
-returns-in-default-bound g c =
+pub returns-in_default-bound : goal.returns-in_default-bound
+returns-in_default-bound g c =
     let b = λ (l : Direction). g.D.Domain.sense.bounded l (g.D.Domain.form c.args.domain.now) in
     let r = c.args.row in
-    ap (reaches r.threshold) c.in-default-bound.ensures ∙ opens b r (Some c.in-Ok.direction) c.in-Clear.is (made r c.in-Ok.direction c.in-Ok.ensures.value.1)
+    ap (reaches r.threshold) c.in_default-bound.ensures ∙ opens b r (Some c.in-Ok.direction) c.in-Clear.is (made r c.in-Ok.direction c.in-Ok.ensures.value.1)
 
 pub returns : goal.returns
 returns g c =

@@ -18,13 +18,13 @@ pub loop-i-preserved : goal.loop-i-preserved
 loop-i-preserved c =
     let i = c.loop-i.i in
     let f : SFits w64 (part c.args.counts i) = search rules in
-    below_more _ _ c.loop-i.invariant (rw (← size_read (part c.args.counts i) f c.unsigned-abs.ensures.value) c.if-unsigned-abs-gt1073741824.false)
+    below_more _ _ c.loop-i.invariant (rw (← size_read (part c.args.counts i) f c.unsigned_abs.ensures.value) c.if-unsigned_abs-gt1073741824.false)
 
-pub returns-then-unsigned-abs-gt1073741824 : goal.returns-then-unsigned-abs-gt1073741824
-returns-then-unsigned-abs-gt1073741824 c =
+pub returns-then-unsigned_abs-gt1073741824 : goal.returns-then-unsigned_abs-gt1073741824
+returns-then-unsigned_abs-gt1073741824 c =
     let i = c.loop-i.i in
     let f : SFits w64 (part c.args.counts i) = search rules in
-    beyond c.args.counts i c.loop-i-test.true (rw (← size_read (part c.args.counts i) f c.unsigned-abs.ensures.value) c.if-unsigned-abs-gt1073741824.true)
+    beyond c.args.counts i c.loop-i-test.true (rw (← size_read (part c.args.counts i) f c.unsigned_abs.ensures.value) c.if-unsigned_abs-gt1073741824.true)
 
 pub returns : goal.returns
 returns c =

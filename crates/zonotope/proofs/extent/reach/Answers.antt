@@ -30,8 +30,8 @@ abs-sum-requires c =
     let gs = c.args.generators.now in
     let k = c.loop-generator.generator-index in
     let h = reaches_step l gs k c.requires.direction c.requires.generators c.loop-generator-test.true in
-    turned (dot l (part (get_or gs k []))) c.scalar-product.result (reaches l (take k gs)) h
-    (product_is (dot l (part (get_or gs k []))) c.scalar-product.result (reaches l (take k gs)) h c.scalar-product.ensures.exact)
+    turned (dot l (part (get_or gs k []))) c.scalar_product.result (reaches l (take k gs)) h
+    (product_is (dot l (part (get_or gs k []))) c.scalar_product.result (reaches l (take k gs)) h c.scalar_product.ensures.exact)
 
 all : (c : After-abs-sum) {x : ℤ} → x ≡ pos (reaches (part c.args.direction) (take c.loop-generator.generator-index c.args.generators.now))
     → Added x c.abs-sum.result (reaches (part c.args.direction) (take c.loop-generator.generator-index c.args.generators.now) + nat_abs (dot (part c.args.direction) (part (get_or c.args.generators.now c.loop-generator.generator-index []))))
@@ -40,11 +40,11 @@ all c e =
     let gs = c.args.generators.now in
     let k = c.loop-generator.generator-index in
     let h = reaches_step l gs k c.requires.direction c.requires.generators c.loop-generator-test.true in
-    added _ c.abs-sum.result (dot l (part (get_or gs k []))) c.scalar-product.result (reaches l (take k gs)) h
-    (product_is (dot l (part (get_or gs k []))) c.scalar-product.result (reaches l (take k gs)) h c.scalar-product.ensures.exact) e c.abs-sum.ensures.value
+    added _ c.abs-sum.result (dot l (part (get_or gs k []))) c.scalar_product.result (reaches l (take k gs)) h
+    (product_is (dot l (part (get_or gs k []))) c.scalar_product.result (reaches l (take k gs)) h c.scalar_product.ensures.exact) e c.abs-sum.ensures.value
 
-pub overflow-add-sum : goal.overflow-add-sum
-overflow-add-sum c = (all c c.loop-generator.invariant).fits
+pub overflow_add-sum : goal.overflow_add-sum
+overflow_add-sum c = (all c c.loop-generator.invariant).fits
 
 pub loop-generator-preserved : goal.loop-generator-preserved
 loop-generator-preserved c =

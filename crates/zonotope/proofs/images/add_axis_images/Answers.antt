@@ -20,7 +20,7 @@ loop-j-preserved c =
     let axis = c.args.axis in
     let f : SFits w64 (part axis j) = search rules in
     let e = arm_image 4 j (pos 0 ∷ (pos 0 ∷ (pos 0 ∷ (pos 0 ∷ [])))) _ refl (by4 (λ k. part (pos 0 ∷ (pos 0 ∷ (pos 0 ∷ (pos 0 ∷ [])))) k ≡ pos 0) refl refl refl refl) h a (size axis j) (2 ^ 30)
-    c.requires.matrix (back_is (part axis j) f ∙ count_is (part axis j) (c.requires.axis j h).0) (c.requires.axis j h).1 (lit< tt) c.matrix-times-column.ensures.exact in (
+    c.requires.matrix (back_is (part axis j) f ∙ count_is (part axis j) (c.requires.axis j h).0) (c.requires.axis j h).1 (lit< tt) c.matrix_times_column.ensures.exact in (
       listed_pushed j (λ (j : ℕ). listed 4 (λ i. pos (size axis j) *ℤ entry a i j)) (take c.args.images.now.count c.args.images.now.items) _ c.push.ensures.list c.loop-j.invariant.0 e,
       omega (arith, c.push.ensures.count, c.loop-j.invariant.1),
     )

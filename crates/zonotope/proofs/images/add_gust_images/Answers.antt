@@ -22,7 +22,7 @@ loop-j-preserved c =
     let gains = c.gains-gains.result in
     let f : SFits w64 (part radii j) = search rules in
     let e = arm_image 2 j (pos 0 ∷ (pos 0 ∷ [])) _ refl (by2 (λ k. part (pos 0 ∷ (pos 0 ∷ [])) k ≡ pos 0) refl refl) h gains (radius m j) (2 ^ 24)
-    (subst (MatrixLimits 2) (sym c.gains-gains.ensures) m.gained) (back_is (part radii j) f ∙ ap (λ (xs : List ℤ). part xs j) c.radii-radii.ensures ∙ radius_is m j h) (radius-size m j h) (lit< tt) c.gusts-times-column.ensures.exact in (
+    (subst (MatrixLimits 2) (sym c.gains-gains.ensures) m.gained) (back_is (part radii j) f ∙ ap (λ (xs : List ℤ). part xs j) c.radii-radii.ensures ∙ radius_is m j h) (radius-size m j h) (lit< tt) c.gusts_times_column.ensures.exact in (
       listed_pushed j (λ (j : ℕ). listed 4 (λ i. pos (radius m j) *ℤ push m i j)) (take c.args.images.now.count c.args.images.now.items) _ c.push.ensures.list c.loop-j.invariant.0
           (e ∙ ap (λ (xs : List (List ℤ)). listed 4 (λ i. pos (radius m j) *ℤ entry xs i j)) c.gains-gains.ensures),
       omega (arith, c.push.ensures.count, c.loop-j.invariant.1),

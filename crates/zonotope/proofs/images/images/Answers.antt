@@ -19,8 +19,8 @@ moved-images-requires c =
       entries = subst (AllEntries (2 ^ 30)) (sym c.list.ensures) (stored_entries t);
     }
 
-pub add-axis-images-requires : goal.add-axis-images-requires
-add-axis-images-requires c =
+pub add_axis_images-requires : goal.add_axis_images-requires
+add_axis_images-requires c =
     let t = c.args.stored.now in
     let n : length c.list.result.now ≤ 16 = subst (λ (gs : List (List ℤ)). length gs ≤ 16) (sym c.list.ensures) (stored_few t) in
     record {
@@ -29,10 +29,10 @@ add-axis-images-requires c =
       axis = t.axial;
     }
 
-pub add-gust-images-requires : goal.add-gust-images-requires
-add-gust-images-requires c =
+pub add_gust_images-requires : goal.add_gust_images-requires
+add_gust_images-requires c =
     let n : length c.list.result.now ≤ 16 = subst (λ (gs : List (List ℤ)). length gs ≤ 16) (sym c.list.ensures) (stored_few c.args.stored.now) in
-    omega (arith, c.moved-images.ensures.count, c.add-axis-images.ensures.count)
+    omega (arith, c.moved-images.ensures.count, c.add_axis_images.ensures.count)
 
 -- the three kinds, one after the other
 joined : {X : Type 0} (a b c d e f : List X) → a ≡ b ++ c → b ≡ d ++ e → d ≡ f → a ≡ f ++ (e ++ c)
@@ -44,6 +44,6 @@ returns c =
     let m = c.args.model.now in
     let t = c.args.stored.now in
     joined _ _ (columns 2 (push m) (radius m)) _ (columns 4 (loop m) (size t.axis)) (map (Advance.moved (loop m)) (standing t.generators))
-    c.add-gust-images.ensures.list
-    (c.add-axis-images.ensures.list ∙ ap (λ (xs : List (List ℤ)). standing c.moved-images.result ++ columns 4 (entry xs) (size t.axis)) c.matrix-2.ensures)
+    c.add_gust_images.ensures.list
+    (c.add_axis_images.ensures.list ∙ ap (λ (xs : List (List ℤ)). standing c.moved-images.result ++ columns 4 (entry xs) (size t.axis)) c.matrix-2.ensures)
     (c.moved-images.ensures.list ∙ ap₂ (λ (xs ys : List (List ℤ)). map (Advance.moved (entry xs)) ys) c.matrix.ensures c.list.ensures)

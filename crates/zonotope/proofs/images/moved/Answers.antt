@@ -15,7 +15,7 @@ loop-generator-preserved c =
     let k = c.loop-generator.generator-index in
     let a = c.args.matrix in (
       map_pushed (Advance.moved (entry a)) [] gs k _ c.loop-generator-test.true c.push.ensures.list c.loop-generator.invariant.0
-          (column_is 4 a (part (get_or gs k [])) (2 ^ 30) c.requires.matrix (c.requires.entries k) (lit< tt) c.matrix-times-column.ensures.exact),
+          (column_is 4 a (part (get_or gs k [])) (2 ^ 30) c.requires.matrix (c.requires.entries k) (lit< tt) c.matrix_times_column.ensures.exact),
       omega (arith, c.push.ensures.count, c.loop-generator.invariant.1),
     )
 

@@ -16,4 +16,4 @@ returns c =
     let s = c.args.counts in
     let e = span_dot l s c.grown.result (c.grown.ensures ∙ grown-zeros l) (λ i h. (c.requires.counts i h).0) in
     let f : SFits w64 (pos (spanned (part l) (size s))) = fits_abs (pos (spanned (part l) (size s))) (2 ^ 52) (spanned-size (part l) (size s) c.requires.entries (λ i h. (c.requires.counts i h).1)) (lit< tt) in
-    ap back (c.scalar-product.ensures.exact (subst (SFits w64) (sym e) f) ∙ e) ∙ back_is (pos (spanned (part l) (size s))) f
+    ap back (c.scalar_product.ensures.exact (subst (SFits w64) (sym e) f) ∙ e) ∙ back_is (pos (spanned (part l) (size s))) f

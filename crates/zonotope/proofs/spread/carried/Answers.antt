@@ -19,8 +19,8 @@ read s n e h = omega (arith, ints)
 part_is : (d a : ℤ) (n : ℕ) → d ≡ pos ((n + 4095) / 4096) → n ≤ 2 ^ 52 → pos 0 ≤ℤ a → nat_abs a ≤ 2 ^ 30 → back (back d +ℤ back (pos 2 *ℤ back a)) ≡ pos ((n + 4095) / 4096 + 2 * nat_abs a)
 part_is d a n e h p q = omega (arith, ints)
 
-pub overflow-add-span : goal.overflow-add-span
-overflow-add-span c =
+pub overflow_add-span : goal.overflow_add-span
+overflow_add-span c =
     let i = c.loop-i.i in
     fitting c.span.result (spanned (part (get_or c.args.matrix i [])) (size c.args.spread)) c.span.ensures
     (spanned-size (part (get_or c.args.matrix i [])) (size c.args.spread) (λ j h. c.requires.matrix i j c.loop-i-test.true h) (λ j h. (c.requires.spread j h).1))

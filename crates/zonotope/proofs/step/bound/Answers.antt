@@ -34,26 +34,26 @@ module _ (t : Stored) (l : List ℤ) (small : Entries (2 ^ 20) l) where
   reach_size : reaches (part l) (standing t.generators) ≤ 2 ^ 52
   reach_size = le_trans (reaches-size (part l) (standing t.generators)) (spanned-size (part l) (sizes (standing t.generators)) small (λ i h. omega (arith, t.limited i h)))
 
-all : (c : After-reach) → Three c.scalar-product-middle.result c.span-sides.result c.reach.result (dot (part c.args.direction) (part c.args.stored.now.centre))
+all : (c : After-reach) → Three c.scalar_product-middle.result c.span-sides.result c.reach.result (dot (part c.args.direction) (part c.args.stored.now.centre))
     (spanned (part c.args.direction) (size c.args.stored.now.axis)) (reaches (part c.args.direction) (standing c.args.stored.now.generators))
 all c =
     let t = c.args.stored.now in
     let l = c.args.direction in
-    three c.scalar-product-middle.result c.span-sides.result c.reach.result (dot (part l) (part t.centre)) (spanned (part l) (size t.axis)) (reaches (part l) (standing t.generators))
-    (c.scalar-product-middle.ensures.exact (fits_abs (dot (part l) (part t.centre)) (2 ^ 52) (centre-size t l c.requires) (lit< tt)))
+    three c.scalar_product-middle.result c.span-sides.result c.reach.result (dot (part l) (part t.centre)) (spanned (part l) (size t.axis)) (reaches (part l) (standing t.generators))
+    (c.scalar_product-middle.ensures.exact (fits_abs (dot (part l) (part t.centre)) (2 ^ 52) (centre-size t l c.requires) (lit< tt)))
     c.span-sides.ensures (c.reach.ensures ∙ ap (λ (gs : List (List ℤ)). pos (reaches (part l) gs)) c.list.ensures)
     (centre-size t l c.requires) (axis-size t l c.requires) (reach_size t l c.requires)
 
-pub overflow-add-result : goal.overflow-add-result
-overflow-add-result c =
+pub overflow_add-result : goal.overflow_add-result
+overflow_add-result c =
     let t = c.args.stored.now in
     let l = c.args.direction in
-    (three c.scalar-product-middle.result c.span-sides.result (pos 0) (dot (part l) (part t.centre)) (spanned (part l) (size t.axis)) 0
-    (c.scalar-product-middle.ensures.exact (fits_abs (dot (part l) (part t.centre)) (2 ^ 52) (centre-size t l c.requires) (lit< tt)))
+    (three c.scalar_product-middle.result c.span-sides.result (pos 0) (dot (part l) (part t.centre)) (spanned (part l) (size t.axis)) 0
+    (c.scalar_product-middle.ensures.exact (fits_abs (dot (part l) (part t.centre)) (2 ^ 52) (centre-size t l c.requires) (lit< tt)))
     c.span-sides.ensures refl (centre-size t l c.requires) (axis-size t l c.requires) (omega arith)).first
 
-pub overflow-add-result-2 : goal.overflow-add-result-2
-overflow-add-result-2 c = (all (goal.at.overflow-add-result-2 c).After-reach).second
+pub overflow_add-result-2 : goal.overflow_add-result-2
+overflow_add-result-2 c = (all (goal.at.overflow_add-result-2 c).After-reach).second
 
 pub returns : goal.returns
 returns c = (all (goal.at.returns c).After-reach).is

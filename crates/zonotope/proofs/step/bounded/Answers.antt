@@ -24,21 +24,21 @@ extents-requires c =
       omega (arith, listed-size (λ i. size f.axis i + size f.centre i) c.grown-counts.result i c.grown-counts.ensures h, ap (λ (xs : List (List ℤ)). sizes xs i) c.list.ensures, (c.requires.axis i h).1, c.requires.centre i h),
     )
 
-pub returns-then-not-is-narrow : goal.returns-then-not-is-narrow
-returns-then-not-is-narrow c =
+pub returns-then-not-is_narrow : goal.returns-then-not-is_narrow
+returns-then-not-is_narrow c =
     let f = c.args.folding.now in
     let e = narrow-bounds (folding_shape f) c.extents.result (sums_are f c.grown-counts.result c.extents.result c.list.result.now c.grown-counts.ensures c.list.ensures c.extents.ensures) in
-    sym (kept_false (bounds (folding_shape f)) _ (sym e ∙ sym c.is-narrow.ensures ∙ c.if-not-is-narrow.true))
+    sym (kept_false (bounds (folding_shape f)) _ (sym e ∙ sym c.is_narrow.ensures ∙ c.if-not-is_narrow.true))
 
-pub invariant-of-result : goal.invariant-of-result
-invariant-of-result c =
+pub invariant_of-result : goal.invariant_of-result
+invariant_of-result c =
     let f = c.args.folding.now in
     let s = sums_are f c.grown-counts.result c.extents.result c.list.result.now c.grown-counts.ensures c.list.ensures c.extents.ensures in
-    let n = narrow_at c.extents.result (sym c.is-narrow.ensures ∙ c.if-not-is-narrow.false) in
-    (c.requires.few, ((λ i h. ((c.requires.axis i h).0, omega (arith, n i h, s i h))), ((λ i h. omega (arith, n i h, s i h)), tt)))
+    let n = narrow_at c.extents.result (sym c.is_narrow.ensures ∙ c.if-not-is_narrow.false) in
+    record { few = c.requires.few; axial = λ i h. ((c.requires.axis i h).0, omega (arith, n i h, s i h)); limited = λ i h. omega (arith, n i h, s i h) }
 
 pub returns : goal.returns
 returns c =
     let f = c.args.folding.now in
     let e = narrow-bounds (folding_shape f) c.extents.result (sums_are f c.grown-counts.result c.extents.result c.list.result.now c.grown-counts.ensures c.list.ensures c.extents.ensures) in
-    sym (kept_true (bounds (folding_shape f)) _ (sym e ∙ sym c.is-narrow.ensures ∙ c.if-not-is-narrow.false))
+    sym (kept_true (bounds (folding_shape f)) _ (sym e ∙ sym c.is_narrow.ensures ∙ c.if-not-is_narrow.false))

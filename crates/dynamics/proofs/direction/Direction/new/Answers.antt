@@ -1,4 +1,4 @@
-use Rattle.std.proofs.Common.{◌≡◌, ℕ, List, ℤ, Some, None, Option, sym, refl, ap, ◌∙◌}
+use Rattle.std.proofs.Common.{◌≡◌, ℕ, List, ℤ, None, Option, sym, refl, ap, ◌∙◌}
 use Rattle.dynamics.specs.declared.ranges.Ranged.{Ranged}
 use Rattle.dynamics.specs.Ranges.{first_outside, row_numbers}
 use Rattle.dynamics.specs.Refusals.{ranged, direction_refusal}
@@ -12,8 +12,8 @@ found l e f = ap (λ ns. ranged (first_outside 0 ns) None) (sym e) ∙ ap (λ o.
 pub returns-in-Some : goal.returns-in-Some
 returns-in-Some c = record { value = found c.args.entries c.row_numbers.ensures c.in-Some.ensures; limits = direction_exact c.args.entries }
 
-pub invariant-of-result : goal.invariant-of-result
-invariant-of-result c = ((direction_exact c.args.entries).0 (found c.args.entries c.row_numbers.ensures c.in-default.ensures), tt)
+pub invariant_of-result : goal.invariant_of-result
+invariant_of-result c = record { limited = (direction_exact c.args.entries).0 (found c.args.entries c.row_numbers.ensures c.in_default.ensures) }
 
 pub returns : goal.returns
-returns c = record { value = (found c.args.entries c.row_numbers.ensures c.in-default.ensures, refl); limits = direction_exact c.args.entries }
+returns c = record { value = (found c.args.entries c.row_numbers.ensures c.in_default.ensures, refl); limits = direction_exact c.args.entries }

@@ -1,4 +1,4 @@
-use Rattle.std.proofs.Common.{◌≡◌, ℕ, ◌/◌, ◌^◌, ◌<◌, ◌≤◌, ℤ, pos, nat_abs, arith, rules}
+use Rattle.std.proofs.Common.{◌≡◌, ℕ, ◌/◌, ◌^◌, ◌≤◌, ℤ, pos, arith}
 use lib.Signed.{quot_z}
 use borrow.Author.Differences.{ints}
 use Rattle.arith.specs.Sums.{part}

@@ -1,4 +1,4 @@
-use Rattle.std.proofs.Common.{◌≡◌, ℕ, ◌/◌, ◌^◌, ◌≤◌, ℤ, pos, ◌-ℤ◌, neg_ℤ, nat_abs, sym, refl, ap, ◌∙◌, arith, rules}
+use Rattle.std.proofs.Common.{◌≡◌, ℕ, ◌/◌, ◌^◌, ◌≤◌, ℤ, pos, ◌-ℤ◌, neg_ℤ, nat_abs, ap, ◌∙◌, arith}
 use borrow.Author.Differences.{ints}
 use Rattle.arith.proofs.Bits.{back}
 use Rattle.dynamics.specs.declared.start.Start.{Start}
@@ -32,15 +32,15 @@ module _ (s : Start) {p : ℕ} {w : ℤ} (e : p ≡ widest (width s)) (f : w ≡
   up_near = rw shift_is.up (omega arith)
 
 pub half-requires : goal.half-requires
-half-requires c = record { widest = c.widest-part-part.ensures.value; near = down_near c.args.self.now c.widest-part-part.ensures.value c.half-radius-shift.ensures }
+half-requires c = record { widest = c.widest_part-part.ensures.value; near = down_near c.args.self.now c.widest_part-part.ensures.value c.half_radius-shift.ensures }
 
 pub half-requires-2 : goal.half-requires-2
-half-requires-2 c = record { widest = c.widest-part-part.ensures.value; near = up_near c.args.self.now c.widest-part-part.ensures.value c.half-radius-shift.ensures }
+half-requires-2 c = record { widest = c.widest_part-part.ensures.value; near = up_near c.args.self.now c.widest_part-part.ensures.value c.half_radius-shift.ensures }
 
 pub returns : goal.returns
 returns c =
     let s = c.args.self.now in
-    let t = shift_is s c.widest-part-part.ensures.value c.half-radius-shift.ensures in
+    let t = shift_is s c.widest_part-part.ensures.value c.half_radius-shift.ensures in
     let p = c.half.ensures.centres ∙ ap (λ (d : ℤ). moved d s) t.down in
     let u = c.half-2.ensures.centres ∙ ap (λ (d : ℤ). moved d s) t.up in
     record {

@@ -1,4 +1,4 @@
-use Rattle.std.proofs.Common.{◌≡◌, ℕ, List, ℤ, Some, None, Option, sym, refl, ap, ◌∙◌}
+use Rattle.std.proofs.Common.{◌≡◌, ℕ, List, ℤ, None, Option, sym, refl, ap, ◌∙◌}
 use Rattle.dynamics.specs.declared.ranges.Ranged.{Ranged}
 use Rattle.dynamics.specs.Ranges.{first_outside}
 use Rattle.dynamics.specs.Refusals.{ranged, start_numbers, wide_start, start_sums, start_refusal}
@@ -15,20 +15,20 @@ returns-in-Some c = record {
   limits = start_exact c.args.centres c.args.radii;
 }
 
-pub returns-in-Some-first-wide-part : goal.returns-in-Some-first-wide-part
-returns-in-Some-first-wide-part c = record {
-  value = found c.args.centres c.args.radii c.start_numbers.ensures c.in-default.ensures ∙ ap start_sums (sym c.in-Some-first-wide-part.ensures.value);
+pub returns-in-Some-first_wide_part : goal.returns-in-Some-first_wide_part
+returns-in-Some-first_wide_part c = record {
+  value = found c.args.centres c.args.radii c.start_numbers.ensures c.in_default.ensures ∙ ap start_sums (sym c.in-Some-first_wide_part.ensures.value);
   limits = start_exact c.args.centres c.args.radii;
 }
 
 accepted : (p w : List ℤ) {ns : List Ranged} → ns ≡ start_numbers p w → None ≡ first_outside 0 ns → None ≡ wide_start p w → start_refusal p w ≡ None
 accepted p w e f g = found p w e f ∙ ap start_sums (sym g)
 
-pub invariant-of-result : goal.invariant-of-result
-invariant-of-result c = ((start_exact c.args.centres c.args.radii).0 (accepted c.args.centres c.args.radii c.start_numbers.ensures c.in-default.ensures c.in-default-first-wide-part.ensures.value), tt)
+pub invariant_of-result : goal.invariant_of-result
+invariant_of-result c = record { limited = (start_exact c.args.centres c.args.radii).0 (accepted c.args.centres c.args.radii c.start_numbers.ensures c.in_default.ensures c.in_default-first_wide_part.ensures.value) }
 
 pub returns : goal.returns
 returns c = record {
-  value = (accepted c.args.centres c.args.radii c.start_numbers.ensures c.in-default.ensures c.in-default-first-wide-part.ensures.value, refl, refl);
+  value = (accepted c.args.centres c.args.radii c.start_numbers.ensures c.in_default.ensures c.in_default-first_wide_part.ensures.value, refl, refl);
   limits = start_exact c.args.centres c.args.radii;
 }

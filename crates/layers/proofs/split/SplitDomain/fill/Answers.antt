@@ -1,4 +1,4 @@
-use Rattle.std.proofs.Common.{◌≡◌, ap, ◌∙◌, ap₂}
+use Rattle.std.proofs.Common.{ap, ◌∙◌, ap₂}
 use Rattle.dynamics.specs.declared.start.Start.{Start}
 use Rattle.dynamics.proofs.Same.{start_same}
 use Rattle.layers.specs.Split.{lower_half, upper_half}

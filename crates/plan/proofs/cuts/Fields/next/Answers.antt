@@ -1,14 +1,14 @@
-use Rattle.std.proofs.Common.{◌≡◌, ℕ, ◌+◌, List, ◌∷◌, length, take, drop, sym, refl, ap, ◌∙◌, subst, arith}
+use Rattle.std.proofs.Common.{◌≡◌, ℕ, ◌+◌, List, ◌∷◌, length, drop, sym, refl, ap, subst, arith}
 use Rattle.std.proofs.lemmas.List.{length-drop}
-use Rattle.plan.specs.Cuts.{until, fields_from}
+use Rattle.plan.specs.Cuts.{fields_from}
 use Rattle.plan.proofs.Breaks.{until-within, from_step}
 use Rattle.plan.proofs.cuts.Fields.next.Goals as goal
 
-pub invariant-of-self : goal.invariant-of-self
-invariant-of-self c =
+pub invariant_of-self : goal.invariant_of-self
+invariant_of-self c =
     let xs = c.args.self.now.line.now in
     let p = c.args.self.now.pos in
-    (omega (arith, ap length c.part-field.ensures, until-within 9 (drop p xs), length-drop p xs), tt)
+    record { within = omega (arith, ap length c.part-field.ensures, until-within 9 (drop p xs), length-drop p xs) }
 
 pub returns : goal.returns
 returns c =

@@ -1,5 +1,5 @@
-use Rattle.std.proofs.Common.{◌≡◌, ◌<◌, ◌≤◌, List, [], ◌∷◌, ◌++◌, map, length, get_or, take, ℤ, pos, sym, ap, ◌∙◌, arith, w64, SFits, rules}
-use Rattle.arith.proofs.Bits.{back, back_is}
+use Rattle.std.proofs.Common.{◌<◌, ◌≤◌, List, [], ◌∷◌, ◌++◌, map, length, get_or, take, ℤ, pos, ap, ◌∙◌, arith, w64, SFits, rules}
+use Rattle.arith.proofs.Bits.{back_is}
 use Rattle.std.proofs.lemmas.List.{take_all}
 use Rattle.std.specs.Fmt.{signed_decimal}
 use Rattle.plan.specs.Grammar.{tabs}

@@ -6,12 +6,12 @@ use Rattle.plan.proofs.lines.Lines.model.Goals as goal
 
 pub unreachable-requires : goal.unreachable-requires
 unreachable-requires c =
-    let first = line_by_ok (gust_of 1) c.rows.new.self.number (rest c.rows.new.self) _ c.in-ok-first.ensures.value in
-    let second = line_by_ok (gust_of 2) c.channel.new.self.number (rest c.channel.new.self) _ c.in-ok-second.ensures.value in
+    let first = line_by_ok (gust_of 1) c.rows.new.self.number (rest c.rows.new.self) _ c.in_ok-first.ensures.value in
+    let second = line_by_ok (gust_of 2) c.channel.new.self.number (rest c.channel.new.self) _ c.in_ok-second.ensures.value in
     let none = c.in-Err.ensures.limits.1
-    (model_kept c.in-ok-matrix.matrix c.in-ok-first.first c.in-ok-second.second
-    (rows_kept c.args.self.now.number (rest c.args.self.now) _ c.in-ok-matrix.ensures.value)
-    (gust_kept 1 first.0 c.in-ok-first.first first.2) (gust_kept 2 second.0 c.in-ok-second.second second.2)) in
+    (model_kept c.in_ok-matrix.matrix c.in_ok-first.first c.in_ok-second.second
+    (rows_kept c.args.self.now.number (rest c.args.self.now) _ c.in_ok-matrix.ensures.value)
+    (gust_kept 1 first.0 c.in_ok-first.first first.2) (gust_kept 2 second.0 c.in_ok-second.second second.2)) in
     let some = c.in-Err.ensures.value in
     let z : ◌≡◌ {A = ℕ} 0 1 = cc in
     omega arith

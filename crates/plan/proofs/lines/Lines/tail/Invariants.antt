@@ -1,4 +1,4 @@
-use Rattle.std.proofs.Common.{◌≡◌, ◌+◌, ◌-◌, ◌≤◌, [], map}
+use Rattle.std.proofs.Common.{◌≡◌, ◌+◌, ◌-◌, [], map}
 use Rattle.plan.specs.Readings.{rest}
 use Rattle.plan.specs.Keeps.{kept, kept_list}
 use Rattle.plan.specs.Plans.{tail_at}

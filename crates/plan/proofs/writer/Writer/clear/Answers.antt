@@ -8,4 +8,4 @@ spelt : (label : List ℕ) → codes "keep\t" ++ (label ++ (9 ∷ codes "clear\n
 spelt label = ap (λ (t : List ℕ). codes "keep\t" ++ t) (sym (append_assoc label (9 ∷ codes "clear") (10 ∷ [])))
 
 pub returns : goal.returns
-returns c = record { lent = c.put-parts.ensures.lent; line = puts_same _ _ c.args.self.now c.put-parts.new.self _ (spelt c.args.label.now) c.put-parts.ensures.line }
+returns c = record { lent = c.put_parts.ensures.lent; line = puts_same _ _ c.args.self.now c.put_parts.new.self _ (spelt c.args.label.now) c.put_parts.ensures.line }

@@ -12,6 +12,6 @@ spelt label k tail e =
 pub returns : goal.returns
 returns c =
     record {
-      lent = c.put-parts.ensures.lent;
-      line = puts_same _ _ c.args.self.now c.put-parts.new.self _ (spelt c.args.label.now c.args.step c.as-bytes.result.now (c.as-bytes.ensures ∙ c.open-tail-tail.ensures)) c.put-parts.ensures.line;
+      lent = c.put_parts.ensures.lent;
+      line = puts_same _ _ c.args.self.now c.put_parts.new.self _ (spelt c.args.label.now c.args.step c.as_bytes.result.now (c.as_bytes.ensures ∙ c.open_tail-tail.ensures)) c.put_parts.ensures.line;
     }

@@ -5,7 +5,7 @@ use Rattle.tube.specs.Flights.{clear_count}
 use Rattle.tube.specs.Judging.{is_clear}
 use Rattle.tube.specs.Rows.{blank}
 use Rattle.tube.proofs.table.KeepOutTable.clear_count.Goals as goal
-use Rattle.tube.proofs.table.KeepOutTable.clear_count.Goals.{then-is-clear, else-is-clear}
+use Rattle.tube.proofs.table.KeepOutTable.clear_count.Goals.{then-is_clear, else-is_clear}
 
 -- one row more, by its finding
 one_clear : (n : ℕ) (rows : List Row) → is_clear (get_or rows n blank).finding ≡ true → clear_count (n + 1) rows ≡ clear_count n rows + 1
@@ -24,7 +24,7 @@ pub loop-n-preserved : goal.loop-n-preserved
 loop-n-preserved c =
     let rows = c.args.self.now.rows in
     let n = c.loop-n.n in
-    elim c.if-is-clear.branch [
-      | then-is-clear w ↦ (w.clear-is ∙ ap (λ (k : ℕ). k + 1) c.loop-n.invariant.0 ∙ sym (one_clear n rows (sym c.is_clear.ensures ∙ w.if-is-clear.true)), omega (arith, w.clear-is))
-      | else-is-clear w ↦ (w.clear-is ∙ c.loop-n.invariant.0 ∙ sym (one_open n rows (sym c.is_clear.ensures ∙ w.if-is-clear.false)), omega (arith, w.clear-is))
+    elim c.if-is_clear.branch [
+      | then-is_clear w ↦ (w.clear-is ∙ ap (λ (k : ℕ). k + 1) c.loop-n.invariant.0 ∙ sym (one_clear n rows (sym c.is_clear.ensures ∙ w.if-is_clear.true)), omega (arith, w.clear-is))
+      | else-is_clear w ↦ (w.clear-is ∙ c.loop-n.invariant.0 ∙ sym (one_open n rows (sym c.is_clear.ensures ∙ w.if-is_clear.false)), omega (arith, w.clear-is))
     ]

@@ -9,11 +9,11 @@ use Rattle.zonotope.specs.Forms.{parts_of, form_of}
 use Rattle.zonotope.specs.Laws.{tightness}
 use Rattle.zonotope.proofs.zonotope.Zonotope.allowance.Goals as goal
 
-pub returns-in-default : goal.returns-in-default
-returns-in-default c = record { value = search rules; tight = tightness }
+pub returns-in_default : goal.returns-in_default
+returns-in_default c = record { value = search rules; tight = tightness }
 
-pub returns-in-default-spread : goal.returns-in-default-spread
-returns-in-default-spread c = record { value = search rules; tight = tightness }
+pub returns-in_default-spread : goal.returns-in_default-spread
+returns-in_default-spread c = record { value = search rules; tight = tightness }
 
 pub returns : goal.returns
 returns c =
