@@ -1,5 +1,5 @@
 -- Numbers drawn about a centre, as code reads and stores them.
-use Rattle.std.proofs.Common.{◌≡◌, ℕ, ◌+◌, ◌^◌, ◌≤◌, ℤ, pos, ◌-ℤ◌, nat_abs, ◌≤ℤ◌, arith, w64, SFits}
+use Rattle.std.proofs.Common.{◌≡◌, ◌+◌, ◌^◌, ◌≤◌, ℤ, pos, ◌-ℤ◌, nat_abs, ◌≤ℤ◌, arith, w64, SFits}
 use borrow.Author.Differences.{ints}
 use Rattle.arith.proofs.Bits.{back, back_is}
 

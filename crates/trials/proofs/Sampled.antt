@@ -1,5 +1,5 @@
 -- The sizes of values that were drawn.
-use Rattle.std.proofs.Common.{◌≡◌, ℕ, ◌+◌, ◌<◌, ◌≤◌, List, [], ◌∷◌, ℤ, pos, nat_abs, IfOk, Ok, Err, Result, sym, ap, subst, arith, w64, SFits, MatchResult}
+use Rattle.std.proofs.Common.{◌≡◌, ℕ, ◌+◌, ◌<◌, ◌≤◌, List, ℤ, pos, nat_abs, IfOk, Ok, Err, Result, sym, subst, arith, w64, SFits, MatchResult}
 use borrow.Author.Differences.{ints}
 use Rattle.arith.specs.Sums.{part}
 use Rattle.arith.proofs.Bits.{back, back_is}

@@ -1,7 +1,7 @@
 -- The exact support number by parts, as code computes it.
-use Rattle.std.proofs.Common.{◌≡◌, ℕ, zero, suc, ◌+◌, ◌-◌, ◌*◌, ◌^◌, ◌<◌, List, ℤ, pos, negsuc, ◌+ℤ◌, ◌*ℤ◌, nat_abs, ◌≤ℤ◌, sym, refl, ap, ◌∙◌, subst, ap₂, sub-one, arith}
+use Rattle.std.proofs.Common.{◌≡◌, ℕ, zero, suc, ◌+◌, ◌-◌, ◌*◌, ◌^◌, ◌<◌, List, ℤ, pos, negsuc, ◌+ℤ◌, ◌*ℤ◌, nat_abs, ◌≤ℤ◌, sym, refl, ap, ◌∙◌, ap₂, arith}
 use borrow.Author.Differences.{ints}
-use Rattle.arith.specs.Sums.{sum, total, listed, part, entry}
+use Rattle.arith.specs.Sums.{listed, part, entry}
 use Rattle.arith.specs.Products.{dot, row_times, spanned}
 use Rattle.arith.proofs.Bridge.{dot-listed, dot-left, sum_two, total_two}
 use Rattle.arith.proofs.Sums.{sum_ext, sum-pos, total_ext, listed_at}
@@ -9,7 +9,6 @@ use Rattle.dynamics.specs.declared.model.Model.{Model}
 use Rattle.dynamics.specs.declared.start.Start.{Start}
 use Rattle.dynamics.specs.Values.{loop, push, middle, radius, centre, width}
 use Rattle.dynamics.specs.Support.{through, across, gusts, exact}
-use Rattle.trials.proofs.Wide.{wide}
 
 -- a product with a column that was read into a list
 pub carried_is : (m : Model) (l : ℕ → ℤ) (j : ℕ) {a : List (List ℤ)} {xs : List ℤ} {z : ℤ} → a ≡ m.matrix → xs ≡ listed 4 (λ i. entry a i j) → z ≡ dot l (part xs) → z ≡ through m l j

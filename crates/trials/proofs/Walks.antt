@@ -1,6 +1,6 @@
 -- A run with one state more.
-use Rattle.std.proofs.Common.{◌≡◌, ℕ, zero, suc, ◌+◌, ◌^◌, ◌<◌, ◌≤◌, Bool, true, leb, ◌⊎◌, List, [], ◌∷◌, ◌++◌, map, length, get_or, ℤ, pos, nat_abs, sym, refl, ap, ◌∙◌, subst, inl, inr, ⊎_elim, arith, length-append, leb-true}
-use Rattle.arith.specs.Sums.{part, every}
+use Rattle.std.proofs.Common.{◌≡◌, ℕ, zero, suc, ◌+◌, ◌^◌, ◌<◌, ◌≤◌, Bool, true, leb, ◌⊎◌, List, [], ◌∷◌, ◌++◌, map, length, ℤ, nat_abs, sym, refl, ap, ◌∙◌, subst, inl, inr, ⊎_elim, arith, length-append, leb-true}
+use Rattle.arith.specs.Sums.{part}
 use Rattle.arith.proofs.Sums.{every_at}
 use Rattle.trials.specs.Walks.{near}
 use Rattle.dynamics.specs.declared.model.Model.{Model}

@@ -1,5 +1,5 @@
 -- Numbers of 128 bits as a proof's goals show them, and sums of them that may not fit.
-use Rattle.std.proofs.Common.{◌≡◌, ℕ, ◌<◌, List, [], ◌∷◌, ℤ, pos, ◌+ℤ◌, ◌*ℤ◌, nat_abs, IfSome, Some, None, Option, sym, refl, ap, ◌∙◌, ap₂, w64, SFits, to_z, of_z}
+use Rattle.std.proofs.Common.{◌≡◌, ℕ, [], ◌∷◌, ℤ, ◌+ℤ◌, ◌*ℤ◌, IfSome, Some, None, Option, sym, ◌∙◌, ap₂, w64, SFits, to_z, of_z}
 use mir.Syntax.{w128}
 use mir.ValLaws.{to_z-of_z}
 use Rattle.std.specs.Option.{SomeIff}

@@ -1,5 +1,5 @@
 -- What the trials count.
-use Rattle.std.specs.Prelude.{ℕ, ◌+◌, ◌-◌, ◌^◌, min, Bool, true, false, cond, List, [], ◌∷◌, ℤ, Some, None, Option}
+use Rattle.std.specs.Prelude.{ℕ, ◌+◌, ◌-◌, ◌^◌, min, Bool, true, false, Some, None, Option}
 use Rattle.trials.specs.declared.marks.Marks.{Marks}
 use Rattle.trials.specs.declared.tally.Tally.{Tally}
 

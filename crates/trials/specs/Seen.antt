@@ -1,5 +1,5 @@
 -- Simulated runs against bounds and keep-outs.
-use Rattle.std.specs.Prelude.{ℕ, ◌+◌, Bool, cond, List, [], ◌∷◌, ℤ, Some, None, vec_items, vec_len, fold, Option}
+use Rattle.std.specs.Prelude.{ℕ, ◌+◌, cond, List, [], ◌∷◌, ℤ, Some, None, vec_items, vec_len, fold, Option}
 use Rattle.dynamics.specs.declared.direction.Direction.{Direction}
 use Rattle.dynamics.specs.declared.keep_out.KeepOut.{KeepOut}
 use Rattle.trials.specs.declared.tally.Tally.{Tally}

@@ -1,5 +1,5 @@
 -- The direction of four entries, by what the check of them says.
-use Rattle.std.proofs.Common.{◌≡◌, ℕ, List, ℤ, Some, None, Option, sym, refl, ap, ◌∙◌, arith}
+use Rattle.std.proofs.Common.{◌≡◌, ℕ, List, ℤ, Some, None, Option, refl, ap, arith}
 use Rattle.dynamics.specs.declared.direction.Direction.{Direction}
 use Rattle.dynamics.specs.Refusals.{direction_refusal}
 use Rattle.dynamics.proofs.Checks.{direction_exact}

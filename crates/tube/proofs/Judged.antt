@@ -5,7 +5,7 @@ use Rattle.std.proofs.lemmas.Bool.{cond-true, cond-false}
 use Rattle.dynamics.specs.declared.direction.Direction.{Direction}
 use Rattle.tube.specs.declared.row.Row.{Row}
 use Rattle.tube.specs.Rows.{opened, blank}
-use Rattle.tube.specs.Judging.{must_open, judged_row, judged}
+use Rattle.tube.specs.Judging.{must_open, judged}
 
 module _ (b : Direction → Option ℤ) (s i : ℕ) (rows rs : List Row) (e : rs ≡ judged b s i rows) where
   pub judged_open : must_open b (get_or rs i blank) ≡ true → set rs i (opened s (get_or rs i blank)) ≡ judged b s (i + 1) rows

@@ -1,23 +1,22 @@
 -- Every list of watches and calls keeps the promise.
-use Rattle.std.proofs.Common.{◌≡◌, ℕ, zero, suc, ◌+◌, ◌<◌, ◌≤◌, Bool, true, false, cond, ltb, ◌≢◌, List, [], ◌∷◌, ◌++◌, length, get_or, take, set, ℤ, sym, refl, ap, ◌∙◌, subst, ⊎_elim, append_assoc, append-nil, add-one, arith, length-set, get_or-set_other, get_or-set_same, ltb-false, ltb-true}
+use Rattle.std.proofs.Common.{◌≡◌, ℕ, zero, suc, ◌+◌, ◌<◌, ◌≤◌, Bool, true, false, cond, ltb, ◌≢◌, List, [], ◌∷◌, ◌++◌, length, get_or, set, sym, refl, ap, ◌∙◌, subst, ⊎_elim, append_assoc, append-nil, add-one, arith, length-set, get_or-set_other, get_or-set_same, ltb-false, ltb-true}
 use Rattle.std.proofs.lemmas.Bool.{cases_eq}
 use Rattle.dynamics.specs.declared.direction.Direction.{Direction}
 use Rattle.dynamics.specs.declared.keep_out.KeepOut.{KeepOut}
 use Rattle.dynamics.specs.declared.model.Model.{Model}
 use Rattle.dynamics.specs.declared.start.Start.{Start}
-use Rattle.domains.specs.Meaning.{Meaning, Answer, Lawful}
+use Rattle.domains.specs.Meaning.{Meaning, Lawful}
 use Rattle.tube.specs.declared.call.Call.{Call}
 use Rattle.tube.specs.declared.call.Call.TheVariants.{Step, Bound, Finding as Ask}
-use Rattle.tube.specs.declared.finding.Finding.TheVariants.{Clear, Open}
 use Rattle.tube.specs.declared.row.Row.{Row}
 use Rattle.tube.specs.Calls.{Table, watched, watched_all, empty_table, begun, called, after}
 use Rattle.tube.specs.Flights.{Flight, judged_at, launched, stepped}
-use Rattle.tube.specs.Judging.{judged, judged_row, reaches}
+use Rattle.tube.specs.Judging.{judged_row}
 use Rattle.tube.specs.Promise.{form_at, JudgedBy, Kept}
 use Rattle.tube.specs.Rows.{blank, row_of}
 use Rattle.tube.specs.Sequences.{ran}
 use Rattle.tube.proofs.Rows.{RowOf, judged-length, judged_at_row, judged_numbers, judged-next, judged-first}
-use Rattle.tube.proofs.Soundness.{form_fits, run_held, run_bound, not_entered}
+use Rattle.tube.proofs.Soundness.{run_held, run_bound, not_entered}
 
 -- ---- the table after a list of watches
 -- it has the first sixteen keep-outs of the list, in order

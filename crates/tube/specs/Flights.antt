@@ -1,6 +1,5 @@
 -- A tube's condition, and what each call makes of it.
-use Rattle.std.specs.Prelude.{ℕ, zero, suc, ◌+◌, Bool, cond, List, slice_index_or}
-use Rattle.dynamics.specs.declared.keep_out.KeepOut.{KeepOut}
+use Rattle.std.specs.Prelude.{ℕ, zero, suc, ◌+◌, cond, List, slice_index_or}
 use Rattle.dynamics.specs.declared.model.Model.{Model}
 use Rattle.dynamics.specs.declared.start.Start.{Start}
 use Rattle.domains.specs.Meaning.{Meaning}

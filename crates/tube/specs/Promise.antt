@@ -1,5 +1,5 @@
 -- What a tube promises of permitted runs, after its launch and after each later call.
-use Rattle.std.specs.Prelude.{◌≡◌, ℕ, zero, suc, ◌<◌, ◌≤◌, true, false, List, [], length, get_or, ℤ, ◌≤ℤ◌, Option, slice_index_or}
+use Rattle.std.specs.Prelude.{◌≡◌, ℕ, zero, suc, ◌<◌, ◌≤◌, true, false, List, length, get_or, ℤ, ◌≤ℤ◌, Option, slice_index_or}
 use Rattle.arith.specs.Products.{dot}
 use Rattle.dynamics.specs.declared.direction.Direction.{Direction}
 use Rattle.dynamics.specs.declared.keep_out.KeepOut.{KeepOut}
@@ -9,7 +9,6 @@ use Rattle.dynamics.specs.KeepOuts.{Enters}
 use Rattle.dynamics.specs.Runs.{Run, state}
 use Rattle.dynamics.specs.Values.{State, along}
 use Rattle.domains.specs.Meaning.{Meaning, Answer}
-use Rattle.tube.specs.declared.call.Call.{Call}
 use Rattle.tube.specs.declared.finding.Finding.{Finding}
 use Rattle.tube.specs.declared.finding.Finding.TheVariants.{Clear, Open}
 use Rattle.tube.specs.Flights.{Flight}

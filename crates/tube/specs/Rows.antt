@@ -1,7 +1,6 @@
 -- The rows of a keep-out table.
-use Rattle.std.specs.Prelude.{ℕ, List, [], ◌∷◌, replicate, ℤ, pos}
+use Rattle.std.specs.Prelude.{ℕ, List, [], ◌∷◌, replicate, pos}
 use Rattle.dynamics.specs.declared.keep_out.KeepOut.{KeepOut}
-use Rattle.tube.specs.declared.finding.Finding.{Finding}
 use Rattle.tube.specs.declared.finding.Finding.TheVariants.{Clear, Open}
 use Rattle.tube.specs.declared.row.Row.{Row}
 

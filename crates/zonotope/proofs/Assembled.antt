@@ -7,7 +7,7 @@ use Rattle.arith.proofs.Sums.{listed_at}
 use Rattle.dynamics.specs.declared.model.Model.{Model}
 use Rattle.dynamics.specs.Rows.{allowance}
 use Rattle.zonotope.specs.Shape.{Shape, size}
-use Rattle.zonotope.specs.Advance.{images, middle_image, rounded, residues, remainder, new_axis}
+use Rattle.zonotope.specs.Advance.{images, middle_image, residues, remainder, new_axis}
 use Rattle.zonotope.proofs.Counts.{listed-size}
 
 -- a function of each entry of a list that was written from the index

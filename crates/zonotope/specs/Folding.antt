@@ -1,5 +1,5 @@
 -- A fold keeps every held state.
-use Rattle.std.specs.Prelude.{◌≡◌, ℕ, zero, suc, ◌+◌, ◌-◌, ◌*◌, ◌≤◌, List, [], ℤ, pos, ◌+ℤ◌, ◌*ℤ◌, slice_index_or, unsigned_abs, refl}
+use Rattle.std.specs.Prelude.{◌≡◌, ℕ, zero, suc, ◌+◌, ◌≤◌, List, [], ℤ, pos, ◌+ℤ◌, ◌*ℤ◌, slice_index_or, unsigned_abs, refl}
 use Rattle.std.proofs.Common.{mul-add, arith}
 use Rattle.arith.proofs.Ring.{linear}
 use Rattle.arith.proofs.Order.{abs-mul-le}

@@ -1,5 +1,5 @@
 -- What a zonotope is, what it holds, and how far it reaches.
-use Rattle.std.specs.Prelude.{◌≡◌, ℕ, ◌+◌, ◌*◌, ◌<◌, ◌≤◌, List, [], ◌∷◌, ℤ, pos, ◌+ℤ◌, ◌*ℤ◌, unsigned_abs}
+use Rattle.std.specs.Prelude.{◌≡◌, ℕ, ◌+◌, ◌<◌, ◌≤◌, List, [], ◌∷◌, ℤ, pos, ◌+ℤ◌, ◌*ℤ◌, unsigned_abs}
 use Rattle.arith.specs.Sums.{part}
 use Rattle.arith.specs.Products.{dot, spanned}
 use Rattle.dynamics.specs.Values.{State}

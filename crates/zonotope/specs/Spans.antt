@@ -2,7 +2,7 @@
 use Rattle.std.specs.Prelude.{◌≡◌, ℕ, ◌+◌, ◌*◌, ◌^◌, ◌<◌, ◌≤◌, List, ℤ, pos, ◌*ℤ◌, ◌≤ℤ◌, unsigned_abs}
 use Rattle.std.proofs.Common.{ap, ap₂, ◌∙◌, mul-add, mul-le-mul, mul-le-mul_left, arith}
 use Rattle.std.proofs.lemmas.Int.{ints}
-use Rattle.arith.specs.Sums.{sum, total, listed, part}
+use Rattle.arith.specs.Sums.{total, listed, part}
 use Rattle.arith.specs.Products.{dot, spanned}
 use Rattle.arith.proofs.Sums.{listed_at, sum_ext, sum-pos, total-le, total_ext, total-add}
 use Rattle.zonotope.specs.Shape.{size}

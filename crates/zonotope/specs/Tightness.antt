@@ -18,7 +18,7 @@ use Rattle.dynamics.specs.Values.{loop, push, middle, radius}
 use Rattle.dynamics.specs.Support.{through, gusts, exact}
 use Rattle.dynamics.proofs.Step.{image-dot}
 use Rattle.zonotope.specs.Shape.{Shape, size, reaches, bound}
-use Rattle.zonotope.specs.Advance.{moved, columns, images, rounded, residues, middle_image, new_axis, advanced}
+use Rattle.zonotope.specs.Advance.{moved, images, rounded, residues, middle_image, new_axis, advanced}
 use Rattle.zonotope.specs.Fold.{without, folded}
 use Rattle.zonotope.specs.Spread.{spread_advanced, charged, added, spread_folded}
 use Rattle.zonotope.specs.Tight.{Tight}

@@ -1,4 +1,4 @@
-use Rattle.std.proofs.Common.{◌≡◌, ◌+◌, ◌*◌}
+use Rattle.std.proofs.Common.{◌≡◌}
 use Rattle.trials.specs.Counts.{total}
 use Rattle.trials.proofs.calls.check_watches.Given as goal
 

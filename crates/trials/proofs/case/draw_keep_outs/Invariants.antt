@@ -1,5 +1,4 @@
-use Rattle.std.proofs.Common.{◌≡◌, ◌+◌, ◌*◌, vec_len}
-use Rattle.trials.specs.Counts.{total}
+use Rattle.std.proofs.Common.{◌≡◌, vec_len}
 use Rattle.trials.proofs.case.draw_keep_outs.Given as goal
 
 abbrev pub invariant-loop : goal.invariant-loop

@@ -1,4 +1,4 @@
-use Rattle.std.proofs.Common.{◌≡◌, ℕ, ◌+◌, List, [], ◌∷◌, ◌++◌, map, vec_items, vec_len, sym, ap, ◌∙◌, subst}
+use Rattle.std.proofs.Common.{ℕ, ◌+◌, List, [], ◌∷◌, ◌++◌, map, vec_items, sym, ap, ◌∙◌, subst}
 use Rattle.arith.specs.Sums.{part}
 use Rattle.dynamics.specs.declared.model.Model.{Model}
 use Rattle.dynamics.specs.declared.start.Start.{Start}

@@ -1,4 +1,4 @@
-use Rattle.std.proofs.Common.{◌≡◌, ◌+◌, ◌*◌}
+use Rattle.std.proofs.Common.{◌≡◌, ◌*◌}
 use Rattle.trials.specs.Counts.{looked}
 use Rattle.trials.proofs.check.check_domain.Given as goal
 

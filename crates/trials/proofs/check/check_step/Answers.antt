@@ -1,4 +1,4 @@
-use Rattle.std.proofs.Common.{◌≡◌, arith}
+use Rattle.std.proofs.Common.{arith}
 use Rattle.dynamics.specs.declared.direction.Direction.{Direction}
 use Rattle.trials.proofs.Directions.{count_more, seen_more, seen_all}
 use Rattle.trials.proofs.check.check_step.Goals as goal

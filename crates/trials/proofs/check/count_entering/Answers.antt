@@ -1,4 +1,4 @@
-use Rattle.std.proofs.Common.{◌≡◌, ℕ, ◌+◌, ◌≤◌, Bool, cond, vec_items, sym, refl, ap, ◌∙◌, arith}
+use Rattle.std.proofs.Common.{Bool, cond, vec_items, sym, refl, ap, ◌∙◌, arith}
 use Rattle.trials.specs.declared.walk.Walk.{Walk}
 use Rattle.trials.specs.Seen.{entering}
 use Rattle.trials.specs.Verdicts.{enters_any}

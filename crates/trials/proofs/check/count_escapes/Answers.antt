@@ -1,4 +1,4 @@
-use Rattle.std.proofs.Common.{◌≡◌, ℕ, ◌+◌, ◌≤◌, Bool, cond, List, ℤ, vec_items, Option, sym, refl, ap, ◌∙◌, arith}
+use Rattle.std.proofs.Common.{◌≡◌, Bool, cond, List, ℤ, vec_items, Option, sym, refl, ap, ◌∙◌, arith}
 use Rattle.arith.proofs.Bits.{back, back_is}
 use Rattle.trials.specs.declared.walk.Walk.{Walk}
 use Rattle.trials.specs.Seen.{escaping}

@@ -1,5 +1,4 @@
-use Rattle.std.proofs.Common.{◌≡◌, ◌+◌, ◌*◌}
-use Rattle.trials.specs.Counts.{looked}
+use Rattle.std.proofs.Common.{◌≡◌, ◌+◌}
 use Rattle.trials.proofs.check.watch_all.Given as goal
 
 abbrev pub invariant-loop-keep_out : goal.invariant-loop-keep_out

@@ -1,4 +1,4 @@
-use Rattle.std.proofs.Common.{◌≡◌, ℕ, ◌<◌, ℤ, ◌+ℤ◌, ◌*ℤ◌, ◌∙◌, ap₂, arith, SFits, rules}
+use Rattle.std.proofs.Common.{◌<◌, ◌+ℤ◌, ◌*ℤ◌, ◌∙◌, ap₂, arith, SFits, rules}
 use mir.Syntax.{w128}
 use Rattle.arith.specs.Sums.{part}
 use Rattle.trials.proofs.SupportNumbers.{exact_step}

@@ -1,4 +1,4 @@
-use Rattle.std.proofs.Common.{◌≡◌, ℤ, pos, ◌+ℤ◌, ◌*ℤ◌, nat_abs, ap, ◌∙◌, ap₂, w64, SFits, rules}
+use Rattle.std.proofs.Common.{ℤ, pos, ◌+ℤ◌, ◌*ℤ◌, nat_abs, ap, ◌∙◌, ap₂, SFits, rules}
 use mir.Syntax.{w128}
 use Rattle.trials.proofs.Wide.{wide_is, is_as, term_is}
 use Rattle.trials.proofs.exact.channel_reach.Goals as goal

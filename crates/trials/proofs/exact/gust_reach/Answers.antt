@@ -1,4 +1,4 @@
-use Rattle.std.proofs.Common.{◌≡◌, ℕ, ◌<◌, List, ℤ, pos, ◌+ℤ◌, ◌*ℤ◌, nat_abs, ap, ◌∙◌, ap₂, lit<, w64, SFits, rules}
+use Rattle.std.proofs.Common.{ℕ, List, ℤ, ap, ◌∙◌, lit<, w64, SFits, rules}
 use mir.Syntax.{w128}
 use Rattle.arith.specs.Sums.{part}
 use Rattle.arith.proofs.Bits.{back_is}

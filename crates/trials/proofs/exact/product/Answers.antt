@@ -1,4 +1,4 @@
-use Rattle.std.proofs.Common.{ℕ, ℤ, ◌*ℤ◌, w64, SFits, rules}
+use Rattle.std.proofs.Common.{ℕ, ◌*ℤ◌, w64, SFits, rules}
 use mir.Syntax.{w128}
 use Rattle.arith.specs.Sums.{part}
 use Rattle.trials.proofs.Wide.{is_as, term_is, four_summed}

@@ -1,4 +1,4 @@
-use Rattle.std.proofs.Common.{◌≡◌, List, ℤ, ◌+ℤ◌, ap, ◌∙◌, ap₂, SFits, rules}
+use Rattle.std.proofs.Common.{List, ℤ, ◌+ℤ◌, ap, ◌∙◌, ap₂, SFits, rules}
 use mir.Syntax.{w128}
 use Rattle.arith.specs.Sums.{part}
 use Rattle.arith.specs.Products.{dot}

@@ -1,4 +1,4 @@
-use Rattle.std.proofs.Common.{◌≡◌, ℤ, ◌+ℤ◌, ◌∙◌, ap₂, SFits, rules}
+use Rattle.std.proofs.Common.{◌+ℤ◌, ◌∙◌, ap₂, SFits, rules}
 use mir.Syntax.{w128}
 use Rattle.trials.proofs.Wide.{wide_is, is_as}
 use Rattle.trials.proofs.exact.sum_of.Goals as goal

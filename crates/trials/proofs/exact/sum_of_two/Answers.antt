@@ -1,4 +1,4 @@
-use Rattle.std.proofs.Common.{◌≡◌, ℤ, ◌+ℤ◌, ap₂}
+use Rattle.std.proofs.Common.{◌+ℤ◌, ap₂}
 use Rattle.trials.proofs.Wide.{wide_is, checked_as}
 use Rattle.trials.proofs.exact.sum_of_two.Goals as goal
 

@@ -1,4 +1,4 @@
-use Rattle.std.proofs.Common.{◌≡◌, ℤ, ◌*ℤ◌, ◌∙◌, ap₂, SFits, rules}
+use Rattle.std.proofs.Common.{◌*ℤ◌, ◌∙◌, ap₂, SFits, rules}
 use mir.Syntax.{w128}
 use Rattle.arith.proofs.Bits.{back_is}
 use Rattle.trials.proofs.Wide.{wide_is, checked_as}

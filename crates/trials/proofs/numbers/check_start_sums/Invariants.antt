@@ -1,4 +1,4 @@
-use Rattle.std.proofs.Common.{◌≡◌, ◌+◌, ◌*◌}
+use Rattle.std.proofs.Common.{◌≡◌, ◌*◌}
 use Rattle.trials.specs.Counts.{total}
 use Rattle.trials.proofs.numbers.check_start_sums.Given as goal
 

@@ -1,4 +1,4 @@
-use Rattle.std.proofs.Common.{◌≡◌, List, [], ◌∷◌, ℤ, sym, subst}
+use Rattle.std.proofs.Common.{◌≡◌, List, [], ◌∷◌, ℤ, subst}
 use Rattle.dynamics.specs.declared.channel.Channel.{Channel}
 use Rattle.dynamics.specs.Refusals.{model_refusal}
 use Rattle.trials.specs.Numbers.{ToldAs, ModelTold, matrix_of, channel_of}

@@ -1,4 +1,4 @@
-use Rattle.std.proofs.Common.{◌≡◌, ◌+◌, ◌*◌, vec_len}
+use Rattle.std.proofs.Common.{◌≡◌}
 use Rattle.trials.specs.Counts.{total}
 use Rattle.trials.proofs.reading.check_texts.Given as goal
 

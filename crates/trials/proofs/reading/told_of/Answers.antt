@@ -1,4 +1,4 @@
-use Rattle.std.proofs.Common.{◌≡◌, [], ◌∷◌, ap, ◌∙◌}
+use Rattle.std.proofs.Common.{[], ◌∷◌, ap, ◌∙◌}
 use Rattle.plan.specs.declared.told.Told.{Told}
 use Rattle.trials.specs.Texts.{told_numbers}
 use Rattle.trials.proofs.reading.told_of.Goals as goal

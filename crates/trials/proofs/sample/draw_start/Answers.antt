@@ -1,4 +1,4 @@
-use Rattle.std.proofs.Common.{[], ◌∷◌, ℤ, w64, SFits, rules}
+use Rattle.std.proofs.Common.{[], ◌∷◌, w64, SFits, rules}
 use Rattle.arith.proofs.Bits.{back}
 use Rattle.arith.proofs.Indices.{by4}
 use Rattle.trials.specs.Kinds.{start_size}

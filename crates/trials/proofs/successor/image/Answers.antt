@@ -1,4 +1,4 @@
-use Rattle.std.proofs.Common.{◌≡◌, ℕ, ◌^◌, ◌<◌, ◌≤◌, List, ℤ, pos, ◌+ℤ◌, nat_abs, sym, ap, ◌∙◌, subst, lit<}
+use Rattle.std.proofs.Common.{ℕ, ◌^◌, ◌<◌, ◌≤◌, List, ℤ, pos, nat_abs, sym, ap, ◌∙◌, subst, lit<}
 use Rattle.arith.specs.Sums.{part}
 use Rattle.arith.specs.Products.{times_column}
 use Rattle.arith.proofs.Bridge.{four-listed}

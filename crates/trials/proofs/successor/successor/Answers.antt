@@ -1,8 +1,8 @@
-use Rattle.std.proofs.Common.{◌≡◌, ℕ, ◌^◌, ◌<◌, ◌≤◌, List, ℤ, pos, ◌-ℤ◌, ◌*ℤ◌, nat_abs, ap, ◌∙◌, lit<, w64, SFits, rules}
+use Rattle.std.proofs.Common.{◌≡◌, ℕ, ◌<◌, List, ℤ, pos, ap, ◌∙◌, lit<, w64, SFits, rules}
 use Rattle.arith.specs.Sums.{part}
 use Rattle.arith.proofs.Indices.{by4}
 use Rattle.arith.proofs.Sums.{listed_at}
-use Rattle.dynamics.specs.Runs.{image, Permitted}
+use Rattle.dynamics.specs.Runs.{image}
 use Rattle.trials.proofs.Images.{calm_size, close_as}
 use Rattle.trials.proofs.successor.successor.Goals as goal
 

@@ -1,4 +1,4 @@
-use Rattle.std.proofs.Common.{◌≡◌, ℕ, ◌<◌, Bool, T, List, ℤ, pos, IfSome, Some, None, Option, sym, ap, ◌∙◌, subst, w64, SFits, rules}
+use Rattle.std.proofs.Common.{◌≡◌, ℕ, Bool, T, List, ℤ, pos, IfSome, Some, None, Option, sym, ap, ◌∙◌, subst, w64, SFits, rules}
 use mir.Syntax.{w128}
 use Rattle.arith.specs.Sums.{part, listed}
 use Rattle.arith.proofs.Bits.{back_is}

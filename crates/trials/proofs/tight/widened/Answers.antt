@@ -1,4 +1,4 @@
-use Rattle.std.proofs.Common.{◌≡◌, ℕ, List, ℤ, ap, ◌∙◌, w64, SFits, rules}
+use Rattle.std.proofs.Common.{ℕ, List, ℤ, ap, ◌∙◌, w64, SFits, rules}
 use mir.Syntax.{w128}
 use Rattle.arith.specs.Sums.{part}
 use Rattle.arith.proofs.Bits.{back_is}

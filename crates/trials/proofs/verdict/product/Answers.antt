@@ -1,4 +1,4 @@
-use Rattle.std.proofs.Common.{◌≡◌, ℕ, ◌*◌, ◌^◌, ◌<◌, ◌≤◌, ℤ, ◌*ℤ◌, nat_abs, sym, ap, ◌∙◌, subst, ap₂, arith, w64, SFits, rules}
+use Rattle.std.proofs.Common.{◌≡◌, ◌*◌, ◌^◌, ◌≤◌, ℤ, ◌*ℤ◌, nat_abs, sym, ◌∙◌, subst, ap₂, arith, w64, SFits, rules}
 use borrow.Author.Differences.{ints}
 use mir.Syntax.{w128}
 use Rattle.arith.proofs.Bits.{back_is}

@@ -1,4 +1,4 @@
-use Rattle.std.proofs.Common.{◌≡◌, ℕ, ◌+◌, ◌*◌, ◌^◌, ◌<◌, ◌≤◌, ℤ, ◌+ℤ◌, nat_abs, ap, ◌∙◌, ap₂, arith, lit≤, SFits}
+use Rattle.std.proofs.Common.{◌≡◌, ℕ, ◌+◌, ◌*◌, ◌^◌, ◌≤◌, ℤ, ◌+ℤ◌, nat_abs, ◌∙◌, ap₂, arith, lit≤, SFits}
 use borrow.Author.Differences.{ints}
 use mir.Syntax.{w128}
 use Rattle.trials.proofs.Wide.{wide, wide_is}

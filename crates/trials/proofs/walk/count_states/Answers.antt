@@ -1,4 +1,4 @@
-use Rattle.std.proofs.Common.{◌≡◌, ℕ, take, vec_len, fold, sym, ap, ◌∙◌, ap₂}
+use Rattle.std.proofs.Common.{ℕ, vec_len, sym, ap, ◌∙◌, ap₂}
 use Rattle.std.proofs.lemmas.List.{take_all}
 use Rattle.std.proofs.lemmas.List.Sums.{fold_more}
 use Rattle.trials.specs.declared.walk.Walk.{Walk}

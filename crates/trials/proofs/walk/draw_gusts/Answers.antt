@@ -1,4 +1,4 @@
-use Rattle.std.proofs.Common.{ℕ, ◌<◌, ◌≤◌, List, ℤ, ap, w64, SFits, rules}
+use Rattle.std.proofs.Common.{ℕ, List, ℤ, ap, w64, SFits, rules}
 use Rattle.arith.specs.Sums.{part}
 use Rattle.arith.proofs.Indices.{by2}
 use Rattle.trials.proofs.Draws.{drawn}

@@ -1,7 +1,7 @@
-use Rattle.std.proofs.Common.{ℕ, ◌<◌, ◌≤◌, List, ℤ, ap, lit<, w64, SFits, rules}
+use Rattle.std.proofs.Common.{ℕ, List, ℤ, ap, lit<, w64, SFits, rules}
 use Rattle.arith.specs.Sums.{part}
 use Rattle.arith.proofs.Indices.{by4}
-use Rattle.trials.proofs.Draws.{drawn, Drawable, drawable}
+use Rattle.trials.proofs.Draws.{drawn, drawable}
 use Rattle.trials.proofs.walk.first_state.Goals as goal
 
 pub about-requires-4 : goal.about-requires-4

@@ -1,6 +1,6 @@
-use Rattle.std.proofs.Common.{◌≡◌, ℕ, ◌^◌, ◌<◌, ◌≤◌, Bool, true, false, leb, List, ℤ, nat_abs, sym, refl, ap, arith, w64, SFits, rules, below_more, le-leb, leb-true}
-use Rattle.arith.specs.Sums.{part, every}
-use Rattle.arith.proofs.Bits.{back, back_is}
+use Rattle.std.proofs.Common.{◌≡◌, ℕ, ◌^◌, ◌<◌, Bool, true, false, leb, List, ℤ, nat_abs, sym, refl, arith, w64, SFits, rules, below_more, le-leb, leb-true}
+use Rattle.arith.specs.Sums.{part}
+use Rattle.arith.proofs.Bits.{back_is}
 use Rattle.arith.proofs.Sums.{every_at, at_every}
 use Rattle.trials.specs.Walks.{near}
 use Rattle.trials.proofs.walk.is_near.Goals as goal

@@ -1,4 +1,4 @@
-use Rattle.std.proofs.Common.{◌≡◌, List, sym, refl, ap, ◌∙◌}
+use Rattle.std.proofs.Common.{ap, ◌∙◌}
 use Rattle.dynamics.specs.declared.model.Model.{Model}
 use Rattle.tube.specs.Calls.{called, reply}
 use Rattle.tube.specs.Flights.{Flight}

@@ -1,6 +1,5 @@
 use Rattle.std.proofs.Common.{◌≡◌, ◌++◌, drop, vec_items}
 use Rattle.tube.specs.Calls.{after, replies}
-use Rattle.tube.specs.Flights.{Flight}
 use Rattle.tube.proofs.follow.answer_all.Given as goal
 
 -- what is left of the calls gives the result

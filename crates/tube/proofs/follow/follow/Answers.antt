@@ -1,11 +1,8 @@
-use Rattle.std.proofs.Common.{◌≡◌, ℕ, List, [], ◌∷◌, ◌++◌, take, vec_items, sym, refl, ap, ◌∙◌, append_assoc}
+use Rattle.std.proofs.Common.{◌≡◌, ℕ, List, ◌++◌, take, ap, ◌∙◌}
 use Rattle.std.proofs.lemmas.Result.{IfOk-from_err}
 use Rattle.dynamics.specs.declared.keep_out.KeepOut.{KeepOut}
-use Rattle.dynamics.specs.declared.model.Model.{Model}
 use Rattle.dynamics.specs.declared.start.Start.{Start}
 use Rattle.domains.specs.Meaning.{Meaning}
-use Rattle.tube.specs.declared.call.Call.{Call}
-use Rattle.tube.specs.declared.call.Reply.{Reply}
 use Rattle.tube.specs.declared.row.Row.{Row}
 use Rattle.tube.specs.Calls.{Table, watched_all, watch_replies, empty_table, begun, after, replies}
 use Rattle.tube.specs.Flights.{Flight, launched}

@@ -1,5 +1,5 @@
-use Rattle.std.proofs.Common.{◌≡◌, List, sym, refl, ◌∙◌}
-use Rattle.tube.specs.Calls.{Table, watched, watch_reply}
+use Rattle.std.proofs.Common.{◌∙◌}
+use Rattle.tube.specs.Calls.{watched, watch_reply}
 use Rattle.tube.proofs.Sequences.{ran_turn, told_turn, ran_end, told_end}
 use Rattle.tube.proofs.follow.watch_all.Goals as goal
 

@@ -1,5 +1,5 @@
 use Rattle.std.proofs.Common.{◌≡◌, ◌++◌, drop, vec_items}
-use Rattle.tube.specs.Calls.{Table, watched_all, watch_replies}
+use Rattle.tube.specs.Calls.{watched_all, watch_replies}
 use Rattle.tube.proofs.follow.watch_all.Given as goal
 
 -- what is left of the watches gives the result

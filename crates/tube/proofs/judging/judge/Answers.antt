@@ -1,6 +1,5 @@
-use Rattle.std.proofs.Common.{◌≡◌, List, ℤ, Option, sym, refl, ap, ◌∙◌}
+use Rattle.std.proofs.Common.{sym, refl, ap, ◌∙◌}
 use Rattle.dynamics.specs.declared.direction.Direction.{Direction}
-use Rattle.tube.specs.declared.row.Row.{Row}
 use Rattle.tube.specs.declared.table.KeepOutTable.{KeepOutTable}
 use Rattle.tube.specs.Judging.{must_open, judged}
 use Rattle.tube.proofs.Judged.{judged_open, judged-kept}

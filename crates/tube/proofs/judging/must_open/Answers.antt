@@ -1,10 +1,10 @@
-use Rattle.std.proofs.Common.{◌≡◌, ℕ, Bool, true, false, not, ◌&&◌, ℤ, Some, None, Option, sym, refl, ap, ◌∙◌, ap₂, arith, w64, SFits, rules}
+use Rattle.std.proofs.Common.{◌≡◌, not, ◌&&◌, ℤ, Some, None, Option, sym, ap, ◌∙◌, ap₂, arith, w64, SFits, rules}
 use lib.Signed.{le_z, lt_z}
 use Rattle.std.proofs.lemmas.Int.{ints}
 use Rattle.std.proofs.lemmas.Bool.Decides.{nat_tests}
 use Rattle.arith.proofs.Bits.{back, back_is}
 use Rattle.dynamics.specs.declared.direction.Direction.{Direction}
-use Rattle.tube.specs.declared.finding.Finding.TheVariants.{Clear, Open}
+use Rattle.tube.specs.declared.finding.Finding.TheVariants.{Clear}
 use Rattle.tube.specs.declared.row.Row.{Row}
 use Rattle.tube.specs.Judging.{direction_of, bound_along, reaches, is_clear, must_open}
 use Rattle.tube.proofs.Directions.{direction_made, direction_none}

@@ -1,6 +1,6 @@
-use Rattle.std.proofs.Common.{◌≡◌, ◌^◌, ◌≤◌, List, map, ℤ, pos, sym, ap, ◌∙◌, subst, le_trans, arith, lit≤}
+use Rattle.std.proofs.Common.{◌≡◌, ◌^◌, List, map, ℤ, pos, sym, ap, ◌∙◌, subst, le_trans, arith, lit≤}
 use Rattle.arith.specs.Rounding.{nearest, residue}
-use Rattle.arith.specs.Sums.{listed, part, entry}
+use Rattle.arith.specs.Sums.{listed, entry}
 use Rattle.arith.proofs.Floor.{residue_small}
 use Rattle.dynamics.specs.Limits.{MatrixLimits}
 use Rattle.zonotope.specs.Advance

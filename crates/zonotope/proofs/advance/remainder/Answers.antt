@@ -1,4 +1,4 @@
-use Rattle.std.proofs.Common.{◌+◌, ◌^◌, ◌≤◌, ◌∙◌, le_trans, arith, lit≤}
+use Rattle.std.proofs.Common.{◌+◌, ◌^◌, ◌∙◌, le_trans, arith, lit≤}
 use Rattle.dynamics.specs.Rows.{allowance}
 use Rattle.zonotope.specs.Shape.{size}
 use Rattle.zonotope.proofs.AdvanceLimits.{allowance-size}

@@ -1,4 +1,4 @@
-use Rattle.std.proofs.Common.{◌≡◌, ℕ, ◌^◌, [], ◌∷◌, take, ℤ, pos, ◌*ℤ◌, sym, refl, ◌∙◌, append-nil, arith, lit<, w64, SFits, rules}
+use Rattle.std.proofs.Common.{◌≡◌, ℕ, ◌^◌, [], ◌∷◌, take, pos, ◌*ℤ◌, sym, refl, ◌∙◌, append-nil, arith, lit<, w64, SFits, rules}
 use Rattle.arith.specs.Sums.{part, entry, listed}
 use Rattle.arith.proofs.Bits.{back_is}
 use Rattle.arith.proofs.Indices.{by4}

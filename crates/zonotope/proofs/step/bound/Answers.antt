@@ -1,4 +1,4 @@
-use Rattle.std.proofs.Common.{◌≡◌, ℕ, ◌+◌, ◌^◌, ◌<◌, ◌≤◌, List, ℤ, pos, ◌+ℤ◌, nat_abs, refl, ap, ◌∙◌, le_trans, arith, lit<, w64, SFits}
+use Rattle.std.proofs.Common.{◌≡◌, ℕ, ◌+◌, ◌^◌, ◌≤◌, List, ℤ, pos, ◌+ℤ◌, nat_abs, refl, ap, ◌∙◌, le_trans, arith, lit<, w64, SFits}
 use borrow.Author.Differences.{ints}
 use Rattle.arith.specs.Products.{dot, spanned}
 use Rattle.arith.specs.Sums.{part}

@@ -1,7 +1,7 @@
-use Rattle.std.proofs.Common.{◌≡◌, ℕ, ◌<◌, ◌≤◌, List, [], ◌∷◌, ◌++◌, ℤ, ◌-ℤ◌, nat_abs, vec_items, sym, ap, ◌∙◌, subst}
+use Rattle.std.proofs.Common.{ℕ, ◌<◌, ◌≤◌, List, [], ◌∷◌, ◌++◌, ℤ, ◌-ℤ◌, nat_abs, vec_items, sym, ap, ◌∙◌, subst}
 use Rattle.arith.specs.Sums.{part}
 use Rattle.dynamics.specs.Values.{middle, radius}
-use Rattle.trials.proofs.Walks.{Walking, begun, more, near_parts}
+use Rattle.trials.proofs.Walks.{begun, more, near_parts}
 use Rattle.trials.proofs.walk.Walk.draw.Goals as goal
 use Rattle.trials.proofs.walk.Walk.draw.Goals.{then-not-steady, else-not-steady}
 
