@@ -36,7 +36,7 @@ stack_lawful = product_lawful zonotope_lawful box_lawful
 pub new_fits : stack.fits new_stack
 new_fits = (tt, tt)
 
--- ---- lines of a keep_out tell its finding
+-- ---- lines of a keep-out tell its finding
 -- what follows the label
 after_label : (label a b : List ℕ) → (label ++ a) ++ (10 ∷ []) ≡ (label ++ b) ++ (10 ∷ []) → a ≡ b
 after_label label a b e = append_cancel_left label a b (append_cancel_right (label ++ a) (label ++ b) (10 ∷ []) e)

@@ -93,7 +93,7 @@ step_line_short k (Some zs) h f =
     let s = step_short k h in
     omega (arith, line-length (codes "step") (decimal k ∷ map signed_decimal zs), length-append (decimal k) (tabs (map signed_decimal zs)), tabs_short 17 (map signed_decimal zs) (numbers_short zs f.0), length-map zs signed_decimal, f.1)
 
--- ---- the line of a keep_out
+-- ---- the line of a keep-out
 abbrev pub Early : Finding → Type 0
 Early Clear = Unit {0}
 Early (Open s) = s ≤ 256

@@ -1,4 +1,4 @@
--- The report of a plan: a line for each step, then a line for each keep_out.
+-- The report of a plan: a line for each step, then a line for each keep-out.
 use Rattle.std.specs.Prelude.{ℕ, ◌+◌, List, ◌++◌, map, ℤ, None, Option}
 use Rattle.std.specs.List.{range_with_len, flat_map}
 use Rattle.dynamics.specs.declared.direction.Direction.{Direction}
@@ -22,7 +22,7 @@ module _ {Form : Type 0} (d : Meaning Form) (f : Form) (t : Task) where
   abbrev pub numbers_at : ℕ → Option (List ℤ)
   numbers_at k = ends (λ a. bound_at k (axis a))
 
-  -- what is found of a keep_out over all steps
+  -- what is found of a keep-out over all steps
   abbrev pub finding_of : Labelled → Finding
   finding_of k = verdict (λ j. bound_at j k.keep_out.direction) k.keep_out.threshold t.steps
 

@@ -24,7 +24,7 @@ keep_line t n = slice_index_or (report_lines t) (t.steps + 1 + n) []
 pub record Sentence (t : Task) : Type 0 where
   -- the lines of a report are those into which its bytes are cut
   pub lines : cut (bytes (report_lines t)) ≡ report_lines t
-  -- where the line of a keep_out says clear, no permitted run of the plan enters it at any step from 0
+  -- where the line of a keep-out says clear, no permitted run of the plan enters it at any step from 0
   -- to the plan's steps
   pub clear : (n : ℕ) (k : Labelled) → n < length t.keeps → k ≡ slice_index_or t.keeps n k → keep_line t n ≡ clear_line k.label
       → (xs : List State) → Run t.model t.start xs → (j : ℕ) → j ≤ t.steps → Enters k.keep_out xs j → ⊥

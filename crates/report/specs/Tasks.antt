@@ -9,7 +9,7 @@ use Rattle.plan.specs.Keeps.{Kept, spanned, kept_list}
 use Rattle.plan.specs.Plans.{Sheet}
 use Rattle.plan.specs.Spelling.{KeptSound, AllSound, Sound}
 
--- a keep_out with its label
+-- a keep-out with its label
 pub record Labelled : Type 0 where
   pub label : List ℕ
   pub keep_out : KeepOut

@@ -2,7 +2,7 @@
 ghost use Rattle.std.specs.Prelude.{◌≡◌, ℕ, ◌^◌, ◌<◌, pos, ◌+ℤ◌, ◌*ℤ◌, IfSome, unsigned_abs};
 ghost use Rattle.arith.specs.Sums.{part, entry, listed};
 ghost use Rattle.arith.specs.Products.{dot, spanned};
-ghost use Rattle.dynamics.specs.Support.{through, across, gusts as gusts-of, exact as exact-of};
+ghost use Rattle.dynamics.specs.Support.{through, across, gusts as gusts_of, exact as exact_of};
 ghost use Rattle.dynamics.specs.Values.{centre, width, loop, push};
 
 use dynamics::model::Model;
@@ -101,7 +101,7 @@ fn channel_reach(gain: i128, centre: i64, radius: i64) -> Option<i128>
 
 /// The most that the gusts add in a direction.
 fn gust_reach(model: &Model, l: [i128; 4]) -> Option<i128>
-    ensures { IfSome result (λ z. z ≡ gusts-of model.now (part l)) }
+    ensures { IfSome result (λ z. z ≡ gusts_of model.now (part l)) }
 {
     let b = model.gains();
     let centres = model.centres();
@@ -120,7 +120,7 @@ pub fn scale(k: u32) -> Option<i128>
 
 /// The exact support number of `k` steps in a direction.
 pub fn exact(model: &Model, start: &Start, k: u32, l: [i128; 4]) -> Option<i128>
-    ensures { IfSome result (λ z. z ≡ exact-of model.now start.now k (part l)) }
+    ensures { IfSome result (λ z. z ≡ exact_of model.now start.now k (part l)) }
 {
     if k == 0 {
         return start_reach(start, l);

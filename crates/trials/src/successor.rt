@@ -1,7 +1,7 @@
 //! One step of a simulated run: a successor that the loop permits.
 ghost use Rattle.std.specs.Prelude.{◌≡◌, ℕ, ◌^◌, ◌<◌, ◌≤◌, ◌-ℤ◌, unsigned_abs};
 ghost use Rattle.arith.specs.Sums.{part, listed};
-ghost use Rattle.dynamics.specs.Runs.{image as image-of, Permitted};
+ghost use Rattle.dynamics.specs.Runs.{image as image_of, Permitted};
 ghost use Rattle.dynamics.specs.Values.{middle, radius};
 
 use super::rounding::rounded;
@@ -12,7 +12,7 @@ use dynamics::model::Model;
 fn image(model: &Model, x: [i64; 4], gusts: [i64; 2]) -> [i64; 4]
     requires near { (i : ℕ) → i < 4 → unsigned_abs (part x i) ≤ 2 ^ 39 }
     requires calm { (j : ℕ) → j < 2 → unsigned_abs (part gusts j) ≤ 2 ^ 24 }
-    ensures value { result ≡ listed 4 (image-of model.now (part x) (part gusts)) }
+    ensures value { result ≡ listed 4 (image_of model.now (part x) (part gusts)) }
     ensures small { (i : ℕ) → i < 4 → unsigned_abs (part result i) ≤ 2 ^ 62 }
 {
     let turned = matrix_times_column(model.matrix(), x);

@@ -1,7 +1,7 @@
 //! The zonotope's bounds against the exact support number.
 ghost use Rattle.std.specs.Prelude.{◌≡◌, ◌^◌, T, pos, ◌+ℤ◌, ◌*ℤ◌, IfSome};
 ghost use Rattle.dynamics.specs.Values.{along};
-ghost use Rattle.dynamics.specs.Support.{exact as exact-of};
+ghost use Rattle.dynamics.specs.Support.{exact as exact_of};
 ghost use Rattle.arith.specs.Sums.{listed};
 ghost use Rattle.trials.specs.Counts.{total};
 ghost use Rattle.trials.specs.Verdicts.{TightBound, TightAnswer};
@@ -50,7 +50,7 @@ fn is_tight(
     bound: Option<i64>,
     allowance: Option<i64>,
 ) -> Option<bool>
-    ensures { IfSome result (λ b. (T b → TightAnswer k (exact-of case.now.model case.now.start k (along direction.now)) bound allowance)) }
+    ensures { IfSome result (λ b. (T b → TightAnswer k (exact_of case.now.model case.now.start k (along direction.now)) bound allowance)) }
 {
     let exact = exact(&case.model, &case.start, k, widened(direction))?;
     is_between(k, exact, bound?, allowance?)

@@ -31,14 +31,14 @@ nothing-watched : Watching [] empty_table
 nothing-watched = record { long = refl; few = omega arith; all_or_full = λ h. refl; known = omega arith; each = λ n k h e. absurd (omega arith) }
 
 -- element n of a list with one more at the end
-getD_before : {A : Type 0} (xs : List A) (y d : A) (n : ℕ) → n < length xs → get_or (xs ++ (y ∷ [])) n d ≡ get_or xs n d
-getD_before [] y d n h = absurd (omega arith)
-getD_before (x ∷ xs) y d zero h = refl
-getD_before (x ∷ xs) y d (suc n) h = getD_before xs y d n (omega arith)
+get_or_before : {A : Type 0} (xs : List A) (y d : A) (n : ℕ) → n < length xs → get_or (xs ++ (y ∷ [])) n d ≡ get_or xs n d
+get_or_before [] y d n h = absurd (omega arith)
+get_or_before (x ∷ xs) y d zero h = refl
+get_or_before (x ∷ xs) y d (suc n) h = get_or_before xs y d n (omega arith)
 
-getD_last : {A : Type 0} (xs : List A) (y d : A) → get_or (xs ++ (y ∷ [])) (length xs) d ≡ y
-getD_last [] y d = refl
-getD_last (x ∷ xs) y d = getD_last xs y d
+get_or_last : {A : Type 0} (xs : List A) (y d : A) → get_or (xs ++ (y ∷ [])) (length xs) d ≡ y
+get_or_last [] y d = refl
+get_or_last (x ∷ xs) y d = get_or_last xs y d
 
 length-one-more : {A : Type 0} (xs : List A) (y : A) → length (xs ++ (y ∷ [])) ≡ length xs + 1
 length-one-more [] y = refl
@@ -58,7 +58,7 @@ watch_one-more ks t k w = go (ltb t.count 16) refl
           few = w.few;
           all_or_full = λ h. absurd (omega arith);
           known = omega (arith, w.known, n');
-          each = λ n j h q. w.each n j h (q ∙ getD_before ks k j n (omega (arith, w.known)));
+          each = λ n j h q. w.each n j h (q ∙ get_or_before ks k j n (omega (arith, w.known)));
         }
     go true e =
         let f = ltb-true t.count 16 e in
@@ -70,9 +70,9 @@ watch_one-more ks t k w = go (ltb t.count 16) refl
           known = omega (arith, n');
           each = λ n j h q. ⊎_elim
               (λ (p : n ≡ t.count). let lt : t.count < length t.rows = omega (arith, w.long) in
-              rw (p, get_or-set_same t.rows t.count (row_of k) blank) (ap row_of (sym (q ∙ ap (λ (i : ℕ). get_or (ks ++ (k ∷ [])) i j) (p ∙ g) ∙ getD_last ks k j))))
+              rw (p, get_or-set_same t.rows t.count (row_of k) blank) (ap row_of (sym (q ∙ ap (λ (i : ℕ). get_or (ks ++ (k ∷ [])) i j) (p ∙ g) ∙ get_or_last ks k j))))
               (λ (ne : n ≡ t.count → ⊥). let d : n ≢ t.count = ne in
-              rw (get_or-set_other t.rows t.count n (row_of k) blank) (w.each n j (omega arith) (q ∙ getD_before ks k j n (omega arith))))
+              rw (get_or-set_other t.rows t.count n (row_of k) blank) (w.each n j (omega arith) (q ∙ get_or_before ks k j n (omega arith))))
               (cases_eq n t.count);
         }
 

@@ -26,17 +26,17 @@ shifted_more d p i old new x h l e s =
     below : (k i : ℕ) → (k ≡ i → ⊥) → k < i + 1 → k < i
     below k i n r = omega arith
 
-getD_without-before : {X : Type 0} (d : X) (p : ℕ) (xs : List X) (k : ℕ) → k < p → get_or (without p xs) k d ≡ get_or xs k d
-getD_without-before d p [] k h = refl
-getD_without-before d zero (x ∷ xs) k h = absurd (omega arith)
-getD_without-before d (suc p) (x ∷ xs) zero h = refl
-getD_without-before d (suc p) (x ∷ xs) (suc k) h = getD_without-before d p xs k (omega arith)
+get_or-without_before : {X : Type 0} (d : X) (p : ℕ) (xs : List X) (k : ℕ) → k < p → get_or (without p xs) k d ≡ get_or xs k d
+get_or-without_before d p [] k h = refl
+get_or-without_before d zero (x ∷ xs) k h = absurd (omega arith)
+get_or-without_before d (suc p) (x ∷ xs) zero h = refl
+get_or-without_before d (suc p) (x ∷ xs) (suc k) h = get_or-without_before d p xs k (omega arith)
 
-getD_without-after : {X : Type 0} (d : X) (p : ℕ) (xs : List X) (k : ℕ) → p ≤ k → get_or (without p xs) k d ≡ get_or xs (suc k) d
-getD_without-after d p [] k h = refl
-getD_without-after d zero (x ∷ xs) k h = refl
-getD_without-after d (suc p) (x ∷ xs) zero h = absurd (omega arith)
-getD_without-after d (suc p) (x ∷ xs) (suc k) h = getD_without-after d p xs k (omega arith)
+get_or-without_after : {X : Type 0} (d : X) (p : ℕ) (xs : List X) (k : ℕ) → p ≤ k → get_or (without p xs) k d ≡ get_or xs (suc k) d
+get_or-without_after d p [] k h = refl
+get_or-without_after d zero (x ∷ xs) k h = refl
+get_or-without_after d (suc p) (x ∷ xs) zero h = absurd (omega arith)
+get_or-without_after d (suc p) (x ∷ xs) (suc k) h = get_or-without_after d p xs k (omega arith)
 
 pub without-length : {X : Type 0} (p : ℕ) (xs : List X) → p < length xs → suc (length (without p xs)) ≡ length xs
 without-length p [] h = absurd (omega arith)
@@ -51,8 +51,8 @@ shifted_all d p n old new h l s =
     let short = length-take-le n new (omega (arith, s.long)) in
     ext_get_or d (take n new) (without p (take (n + 1) old)) (omega arith)
     (λ k q. get_or-take n new k d (omega arith) ∙ ⊎_elim
-    (λ (r : k < p). s.before k r ∙ sym (getD_without-before d p (take (n + 1) old) k r ∙ get_or-take (n + 1) old k d (omega arith)))
-    (λ (r : p ≤ k). s.moved k r (omega arith) ∙ ap (λ (j : ℕ). get_or old j d) (add-one k) ∙ sym (getD_without-after d p (take (n + 1) old) k r ∙ get_or-take (n + 1) old (suc k) d (omega arith)))
+    (λ (r : k < p). s.before k r ∙ sym (get_or-without_before d p (take (n + 1) old) k r ∙ get_or-take (n + 1) old k d (omega arith)))
+    (λ (r : p ≤ k). s.moved k r (omega arith) ∙ ap (λ (j : ℕ). get_or old j d) (add-one k) ∙ sym (get_or-without_after d p (take (n + 1) old) k r ∙ get_or-take (n + 1) old (suc k) d (omega arith)))
     (cases_lt k p))
 
 -- the same at a loop's end, where c elements stood and i is the last of their places
