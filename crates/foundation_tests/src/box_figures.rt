@@ -1,38 +1,25 @@
 //! The interval box over several steps.
+ghost use Rattle.std.specs.Prelude.{◌≡◌, ℕ, ◌<◌, pos, IfOk, if◌then◌else◌, None, nat_eq};
+ghost use Rattle.arith.specs.Sums.{entry};
+ghost use Rattle.domains.specs.Box as box;
+ghost use Rattle.domains.specs.BoxForms.{limits_of};
+
 use domains::axis::SignedAxis;
 use domains::domain::Domain;
-use domains::enclosure::{Interval, enclosure};
+use domains::enclosure::enclosure;
 use domains::interval_box::IntervalBox;
-use dynamics::channel::Channel;
 use dynamics::direction::Direction;
 use dynamics::model::Model;
 use dynamics::start::Start;
+use samples::intervals::intervals;
+use samples::values::{channel, model, start};
 use std::test::Fail;
 use unbounded::Unbounded;
 
-fn intervals(numbers: [i64; 8]) -> Option<[Interval; 4]> {
-    Some([
-        Interval {
-            low: numbers[0],
-            high: numbers[1],
-        },
-        Interval {
-            low: numbers[2],
-            high: numbers[3],
-        },
-        Interval {
-            low: numbers[4],
-            high: numbers[5],
-        },
-        Interval {
-            low: numbers[6],
-            high: numbers[7],
-        },
-    ])
-}
-
 /// The identity with one entry in its place.
-fn identity(first: i64) -> [[i64; 4]; 4] {
+fn identity(first: i64) -> [[i64; 4]; 4]
+    ensures { (i j : ℕ) → i < 4 → j < 4 → entry result i j ≡ (if nat_eq i j then (if nat_eq i 0 then first else pos 4096) else pos 0) }
+{
     [
         [first, 0, 0, 0],
         [0, 4096, 0, 0],
@@ -41,30 +28,13 @@ fn identity(first: i64) -> [[i64; 4]; 4] {
     ]
 }
 
-fn channel(gains: [i64; 4], centre: i64, radius: i64) -> Channel {
-    Channel {
-        gains,
-        centre,
-        radius,
-    }
-}
-
-fn model(matrix: [[i64; 4]; 4], first: Channel, second: Channel) -> Result<Model, Fail> {
-    match Model::new(matrix, first, second) {
-        Ok(model) => Ok(model),
-        Err(_) => Err(Fail::new("the model was refused")),
-    }
-}
-
-fn filled(centres: [i64; 4], radii: [i64; 4]) -> Result<IntervalBox, Fail> {
-    match Start::new(centres, radii) {
-        Ok(start) => {
-            let mut filled = IntervalBox::new();
-            filled.fill(&start);
-            Ok(filled)
-        }
-        Err(_) => Err(Fail::new("the start was refused")),
-    }
+/// A box filled with the start of these numbers.
+fn filled(centres: [i64; 4], radii: [i64; 4]) -> Result<IntervalBox, Fail>
+    ensures { IfOk result (λ d. ((s : Start) × (s.centres ≡ centres) × (s.radii ≡ radii) × (limits_of d.limits ≡ box.filled s None))) }
+{
+    let mut filled = IntervalBox::new();
+    filled.fill(&start(centres, radii)?);
+    Ok(filled)
 }
 
 #[test]

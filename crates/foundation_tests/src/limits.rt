@@ -1,42 +1,48 @@
 //! Each limit exactly met, and exceeded by one.
+ghost use Rattle.std.specs.Prelude.{◌≡◌, replicate, pos, Some, None, Ok, Err};
+
 use dynamics::channel::Channel;
 use dynamics::direction::Direction;
 use dynamics::keep_out::KeepOut;
 use dynamics::model::Model;
 use dynamics::refusal::Refusal;
 use dynamics::start::Start;
+use samples::values::channel;
 use std::test::Fail;
 
 /// The refusal of numbers, if any.
-fn refusal<T: Drop>(made: Result<T, Refusal>) -> Option<Refusal> {
+fn refusal<T: Drop>(made: Result<T, Refusal>) -> Option<Refusal>
+    ensures { elim made [ Ok v ↦ result ≡ None | Err e ↦ result ≡ Some e ] }
+{
     match made {
         Ok(_) => None,
         Err(refusal) => Some(refusal),
     }
 }
 
-fn out_of_range(place: usize) -> Option<Refusal> {
+fn out_of_range(place: usize) -> Option<Refusal>
+    ensures { result ≡ Some (Refusal.OutOfRange place) }
+{
     Some(Refusal::OutOfRange { place })
 }
 
-fn too_large(place: usize) -> Option<Refusal> {
+fn too_large(place: usize) -> Option<Refusal>
+    ensures { result ≡ Some (Refusal.TooLarge place) }
+{
     Some(Refusal::TooLarge { place })
 }
 
-fn still() -> Channel {
-    Channel {
-        gains: [0; 4],
-        centre: 0,
-        radius: 0,
-    }
+fn still() -> Channel
+    ensures { (result.gains ≡ replicate 4 (pos 0)) × (result.centre ≡ pos 0) × (result.radius ≡ pos 0) }
+{
+    channel([0; 4], 0, 0)
 }
 
-fn gust(centre: i64, radius: i64) -> Channel {
-    Channel {
-        gains: [1048576, -1048576, 0, 1],
-        centre,
-        radius,
-    }
+/// A channel whose gains meet their limits.
+fn gust(centre: i64, radius: i64) -> Channel
+    ensures { (result.centre ≡ centre) × (result.radius ≡ radius) }
+{
+    channel([1048576, -1048576, 0, 1], centre, radius)
 }
 
 #[test]

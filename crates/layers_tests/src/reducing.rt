@@ -1,56 +1,18 @@
 //! The reduced product of zonotope and interval box against its sides.
+ghost use Rattle.std.specs.Prelude.{◌≡◌, None};
+ghost use Rattle.domains.specs.Axes.{axis};
+ghost use Rattle.domains.specs.Enclosure.{enclosed};
+
 use domains::domain::Domain;
 use domains::enclosure::{Interval, enclosure};
 use domains::interval_box::IntervalBox;
-use dynamics::channel::Channel;
 use dynamics::model::Model;
 use dynamics::start::Start;
 use layers::product::ReducedProduct;
+use samples::intervals::intervals;
+use samples::values::{channel, model, start};
 use std::test::Fail;
 use zonotope::zonotope::Zonotope;
-
-fn intervals(numbers: [i64; 8]) -> Option<[Interval; 4]> {
-    Some([
-        Interval {
-            low: numbers[0],
-            high: numbers[1],
-        },
-        Interval {
-            low: numbers[2],
-            high: numbers[3],
-        },
-        Interval {
-            low: numbers[4],
-            high: numbers[5],
-        },
-        Interval {
-            low: numbers[6],
-            high: numbers[7],
-        },
-    ])
-}
-
-fn channel(gains: [i64; 4], centre: i64, radius: i64) -> Channel {
-    Channel {
-        gains,
-        centre,
-        radius,
-    }
-}
-
-fn model(matrix: [[i64; 4]; 4], first: Channel, second: Channel) -> Result<Model, Fail> {
-    match Model::new(matrix, first, second) {
-        Ok(model) => Ok(model),
-        Err(_) => Err(Fail::new("the model was refused")),
-    }
-}
-
-fn start(centres: [i64; 4], radii: [i64; 4]) -> Result<Start, Fail> {
-    match Start::new(centres, radii) {
-        Ok(start) => Ok(start),
-        Err(_) => Err(Fail::new("the start was refused")),
-    }
-}
 
 /// What a domain encloses after a number of steps.
 fn after<D: Domain>(
@@ -58,7 +20,9 @@ fn after<D: Domain>(
     model: &Model,
     start: &Start,
     steps: u8,
-) -> Option<[Interval; 4]> {
+) -> Option<[Interval; 4]>
+    ensures { result ≡ enclosed (λ a. D.sense.bounded (axis a) (D.form domain.new)) }
+{
     domain.fill(start);
     for _ in 0..steps {
         domain.advance(model);
@@ -66,7 +30,10 @@ fn after<D: Domain>(
     enclosure(domain)
 }
 
-fn product() -> ReducedProduct<Zonotope, IntervalBox> {
+/// A new product of zonotope and box.
+fn product() -> ReducedProduct<Zonotope, IntervalBox>
+    ensures { (result.left.stored ≡ None) × (result.right.limits ≡ None) }
+{
     ReducedProduct::new(Zonotope::new(), IntervalBox::new())
 }
 

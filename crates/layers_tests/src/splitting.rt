@@ -1,6 +1,8 @@
 //! The split and the product over several steps.
+ghost use Rattle.std.specs.Prelude.{◌≡◌, [], ◌∷◌, pos, negsuc, IfOk};
+
 use domains::domain::Domain;
-use domains::enclosure::{Interval, enclosure};
+use domains::enclosure::enclosure;
 use domains::interval_box::IntervalBox;
 use dynamics::channel::Channel;
 use dynamics::direction::Direction;
@@ -8,66 +10,37 @@ use dynamics::model::Model;
 use dynamics::start::Start;
 use layers::product::ReducedProduct;
 use layers::split::Split;
+use samples::intervals::intervals;
+use samples::values::{channel, direction, model, start};
 use std::process::Abort;
 use std::test::Fail;
 use unbounded::Unbounded;
 
-fn intervals(numbers: [i64; 8]) -> Option<[Interval; 4]> {
-    Some([
-        Interval {
-            low: numbers[0],
-            high: numbers[1],
-        },
-        Interval {
-            low: numbers[2],
-            high: numbers[3],
-        },
-        Interval {
-            low: numbers[4],
-            high: numbers[5],
-        },
-        Interval {
-            low: numbers[6],
-            high: numbers[7],
-        },
-    ])
-}
-
-pub(crate) fn sample_model() -> Result<Model, Fail> {
+/// A loop whose rows are not whole, with two channels.
+pub(crate) fn sample_model() -> Result<Model, Fail>
+    ensures { IfOk result (λ m. (m.centres ≡ pos 5 ∷ negsuc 1 ∷ []) × (m.radii ≡ pos 3 ∷ pos 9 ∷ [])) }
+{
     let matrix = [
         [4000, -300, 17, 0],
         [250, 3900, -5, 1],
         [0, -4096, 8192, 0],
         [7, 0, 0, -2048],
     ];
-    let first = Channel {
-        gains: [10, 0, 4096, 1],
-        centre: 5,
-        radius: 3,
-    };
-    let second = Channel {
-        gains: [-3, 4096, -8192, 1],
-        centre: -2,
-        radius: 9,
-    };
-    match Model::new(matrix, first, second) {
-        Ok(model) => Ok(model),
-        Err(_) => Err(Fail::new("the model was refused")),
-    }
+    let first = channel([10, 0, 4096, 1], 5, 3);
+    let second = channel([-3, 4096, -8192, 1], -2, 9);
+    model(matrix, first, second)
 }
 
-pub(crate) fn sample_start() -> Result<Start, Fail> {
-    match Start::new([1000, -2000, 30, 0], [10, 7, 10, 5]) {
-        Ok(start) => Ok(start),
-        Err(_) => Err(Fail::new("the start was refused")),
-    }
+pub(crate) fn sample_start() -> Result<Start, Fail>
+    ensures { IfOk result (λ s. s.radii ≡ pos 10 ∷ pos 7 ∷ pos 10 ∷ pos 5 ∷ []) }
+{
+    start([1000, -2000, 30, 0], [10, 7, 10, 5])
 }
 
-pub(crate) fn sample_direction() -> Result<Direction, Fail> {
-    match Direction::new([3, -2, 0, 5]) {
-        Ok(direction) => Ok(direction),
-        Err(_) => Err(Fail::new("the direction was refused")),
-    }
+pub(crate) fn sample_direction() -> Result<Direction, Fail>
+    ensures { IfOk result (λ d. d.entries ≡ pos 3 ∷ negsuc 1 ∷ pos 0 ∷ pos 5 ∷ []) }
+{
+    direction([3, -2, 0, 5])
 }
 
 /// Two steps of a domain against what they should enclose.

@@ -1,4 +1,6 @@
 //! Layers on layers.
+ghost use Rattle.std.specs.Prelude.{◌≡◌, None};
+
 use super::splitting::check_steps;
 use domains::interval_box::IntervalBox;
 use layers::product::ReducedProduct;
@@ -8,7 +10,10 @@ use unbounded::Unbounded;
 
 type Inner = ReducedProduct<Split<IntervalBox>, Unbounded>;
 
-fn inner() -> Inner {
+/// A product of a split of boxes and the unbounded domain, all new.
+fn inner() -> Inner
+    ensures { (result.left.lower.limits ≡ None) × (result.left.upper.limits ≡ None) }
+{
     ReducedProduct::new(
         Split::new(IntervalBox::new(), IntervalBox::new()),
         Unbounded,

@@ -1,6 +1,7 @@
 //! The limits of watches and steps, no step at all, and tubes that are or become unbounded.
-use super::samples::{beyond, model, start, worked_model, worked_start};
+use super::tubes::{beyond, gusty as model};
 use domains::interval_box::IntervalBox;
+use samples::values::{start, worked_model, worked_start};
 use std::test::Fail;
 use tube::call::{Call, Reply};
 use tube::fault::Fault;

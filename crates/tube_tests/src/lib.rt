@@ -4,6 +4,6 @@
 #[cfg(test)]
 mod edges;
 #[cfg(test)]
-mod samples;
+mod tubes;
 #[cfg(test)]
 mod worked;

@@ -1,7 +1,8 @@
 //! The worked plan: part 1 reaches 108 at step 0 and 110 at step 1.
-use super::samples::{beyond, worked_model, worked_start};
+use super::tubes::beyond;
 use domains::interval_box::IntervalBox;
 use dynamics::direction::Direction;
+use samples::values::{worked_model, worked_start};
 use std::test::Fail;
 use tube::call::{Call, Reply};
 use tube::fault::Fault;

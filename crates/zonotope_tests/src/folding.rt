@@ -1,13 +1,22 @@
 //! Folding of (3, -5, 0, 1), of weight 4: each fold adds (3, 5, 0, 1) to the axis part and
 //! (6, 0, 0, 2) to the spread.
-use super::plans::{channel, check_generators, direction, model, start};
+ghost use Rattle.std.specs.Prelude.{◌≡◌, IfOk};
+ghost use Rattle.dynamics.specs.declared.model.Model.{Model};
+ghost use Rattle.dynamics.specs.declared.start.Start.{Start};
+ghost use Rattle.zonotope.specs.Forms.{form_of};
+ghost use Rattle.zonotope.specs.Tight.{after};
+
+use super::shown::check_generators;
 use domains::domain::Domain;
+use samples::values::{channel, direction, model, start};
 use std::test::Fail;
 use zonotope::zonotope::Zonotope;
 
 /// The identity, with the same two gust columns in each step: (3, -5, 0, 1), and one of weight 30.
 /// From the first step on each adds four zero vectors, which are folded first.
-fn repeated(steps: usize) -> Result<Zonotope, Fail> {
+fn repeated(steps: usize) -> Result<Zonotope, Fail>
+    ensures { IfOk result (λ z. ((m : Model) × (s : Start) × (form_of z.stored ≡ after m s steps))) }
+{
     let still = model(
         [
             [4096, 0, 0, 0],

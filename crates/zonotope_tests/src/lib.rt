@@ -6,6 +6,6 @@ mod folding;
 #[cfg(test)]
 mod limits;
 #[cfg(test)]
-mod plans;
+mod shown;
 #[cfg(test)]
 mod steps;

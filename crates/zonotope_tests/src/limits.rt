@@ -1,7 +1,12 @@
 //! The limits of size and spread, each exactly met and passed by one.
-use super::plans::{calm, channel, direction, model, start};
+ghost use Rattle.std.specs.Prelude.{◌≡◌, [], ◌∷◌, pos, IfOk, slice_index_or};
+ghost use Rattle.dynamics.specs.declared.start.Start.{Start};
+ghost use Rattle.zonotope.specs.Forms.{form_of};
+ghost use Rattle.zonotope.specs.Tight.{after};
+
 use domains::domain::Domain;
 use dynamics::model::Model;
+use samples::values::{calm, channel, direction, model, start};
 use std::test::Fail;
 use zonotope::zonotope::Zonotope;
 
@@ -19,7 +24,9 @@ fn a_new_zonotope_is_unbounded(rt: HostRuntime) -> Result<(), Fail> {
 }
 
 /// One still step from 2^30 - 1 with radius 1, under a gust of this radius.
-fn still(radius: i64) -> Result<Zonotope, Fail> {
+fn still(radius: i64) -> Result<Zonotope, Fail>
+    ensures { IfOk result (λ z. ((m : Model) × (s : Start) × (form_of z.stored ≡ after m s 1))) }
+{
     let model = model(
         [
             [4096, 0, 0, 0],
@@ -69,7 +76,9 @@ fn widened() -> Result<Zonotope, Fail> {
 }
 
 /// Two rows of choice, the third part kept, the fourth zero.
-fn carried(first: [i64; 4], second: [i64; 4]) -> Result<Model, Fail> {
+fn carried(first: [i64; 4], second: [i64; 4]) -> Result<Model, Fail>
+    ensures { IfOk result (λ m. (slice_index_or m.matrix 0 [] ≡ first) × (slice_index_or m.matrix 1 [] ≡ second) × (m.radii ≡ pos 0 ∷ pos 0 ∷ [])) }
+{
     calm([first, second, [0, 0, 4096, 0], [0; 4]])
 }
 

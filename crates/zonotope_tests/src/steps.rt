@@ -1,20 +1,18 @@
 //! Whole steps: the worked plan, and a loop that brings 22 generators before folding.
-use super::plans::{channel, check_generators, direction, model, start};
+ghost use Rattle.std.specs.Prelude.{◌≡◌, [], ◌∷◌, pos, negsuc, IfOk};
+
+use super::shown::check_generators;
 use domains::axis::SignedAxis;
 use domains::domain::Domain;
 use dynamics::model::Model;
+use samples::values::{channel, direction, model, start, worked_model as worked};
 use std::test::Fail;
 use zonotope::zonotope::Zonotope;
 
-fn worked() -> Result<Model, Fail> {
-    model(
-        [[4096, 1024, 0, 0], [0, 2048, 0, 0], [0; 4], [0; 4]],
-        channel([0, 4096, 0, 0], 0, 4),
-        channel([0; 4], 0, 0),
-    )
-}
-
-fn dense() -> Result<Model, Fail> {
+/// A loop of which no row is whole.
+fn dense() -> Result<Model, Fail>
+    ensures { IfOk result (λ m. (m.centres ≡ pos 10 ∷ negsuc 6 ∷ []) × (m.radii ≡ pos 25 ∷ pos 40 ∷ [])) }
+{
     model(
         [
             [4000, 700, -300, 0],

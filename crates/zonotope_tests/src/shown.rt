@@ -1,0 +1,11 @@
+//! A comparison of all the generators that a zonotope shows.
+use std::process::Abort;
+use zonotope::zonotope::Zonotope;
+
+/// Compares the generators with those expected, in order, and that no other stands.
+pub(crate) fn check_generators(rt: &impl Abort, zonotope: &Zonotope, expected: &[[i64; 4]]) {
+    for place in 0..expected.len() {
+        assert_eq!(rt; zonotope.generator(place), Some(expected[place]));
+    }
+    assert_eq!(rt; zonotope.generator(expected.len()), None);
+}
