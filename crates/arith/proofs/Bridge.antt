@@ -22,10 +22,6 @@ pub total-four : (f : ℕ → ℕ) → total 4 f ≡ f 0 + f 1 + f 2 + f 3
 unfolding total
 total-four f = omega arith
 
-pub listed_two : {A : Type 0} (f : ℕ → A) → listed 2 f ≡ f 0 ∷ (f 1 ∷ [])
-unfolding listed
-listed_two f = refl
-
 pub listed-four : {A : Type 0} (f : ℕ → A) → listed 4 f ≡ f 0 ∷ (f 1 ∷ (f 2 ∷ (f 3 ∷ [])))
 unfolding listed
 listed-four f = refl
@@ -44,9 +40,6 @@ pub dot-left : (f x : ℕ → ℤ) → dot (part (listed 4 f)) x ≡ dot f x
 dot-left f x = sum_ext 4 (λ i. part (listed 4 f) i *ℤ x i) (λ i. f i *ℤ x i) (λ i h. ap (λ (z : ℤ). z *ℤ x i) (listed_at 4 f (pos 0) i h))
 
 -- numbers that were computed, put into a list
-pub two_listed : (f : ℕ → ℤ) {a b : ℤ} → SFits w64 a → SFits w64 b → a ≡ f 0 → b ≡ f 1 → back a ∷ (back b ∷ []) ≡ listed 2 f
-two_listed f {a} {b} fa fb p q = ap₂ (λ (x y : ℤ). x ∷ (y ∷ [])) (back_is a fa ∙ p) (back_is b fb ∙ q) ∙ sym (listed_two f)
-
 pub four-listed : (f : ℕ → ℤ) {a b c d : ℤ} → SFits w64 a → SFits w64 b → SFits w64 c → SFits w64 d → a ≡ f 0 → b ≡ f 1 → c ≡ f 2 → d ≡ f 3
     → back a ∷ (back b ∷ (back c ∷ (back d ∷ []))) ≡ listed 4 f
 four-listed f {a} {b} {c} {d} fa fb fc fd p q r s =

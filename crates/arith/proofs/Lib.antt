@@ -3,6 +3,7 @@ pub mod Ring
 pub mod Solver
 pub mod Order
 pub mod Bits
+pub mod FromFn
 pub mod Floor
 pub mod Sums
 pub mod Dots

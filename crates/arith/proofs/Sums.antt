@@ -1,5 +1,6 @@
 -- The laws of sums over an index.
-use Rattle.std.proofs.Common.{◌≡◌, ℕ, zero, suc, ◌+◌, ◌*◌, ◌<◌, ◌≤◌, Bool, true, false, cond, eqb, ◌≢◌, List, [], ◌∷◌, length, get_or, set, ℤ, pos, ◌+ℤ◌, ◌*ℤ◌, nat_abs, ◌≤ℤ◌, sym, refl, ap, ◌∙◌, subst, ap₂, ⊎_elim, suc-mul, mul-zero, zero-mul, mul-add, arith, length-set, get_or-set_other, get_or-set_same}
+use Rattle.std.proofs.Common.{◌≡◌, ℕ, zero, suc, ◌+◌, ◌*◌, ◌<◌, ◌≤◌, Bool, true, false, cond, ◌&&◌, eqb, ◌≢◌, List, [], ◌∷◌, length, get_or, set, ℤ, pos, ◌+ℤ◌, ◌*ℤ◌, nat_abs, ◌≤ℤ◌, sym, refl, ap, ◌∙◌, subst, ap₂, ⊎_elim, suc-mul, mul-zero, zero-mul, mul-add, arith, length-set, get_or-set_other, get_or-set_same}
+use Rattle.std.specs.List.{list_all}
 use Rattle.std.proofs.lemmas.Bool.{cases_eq}
 use lib.IntN.{*ℤ-zero, zero-*ℤ, +ℤ_idl, +ℤ_idr}
 use lib.Dec.{eqb-suc-zero, eqb-zero-suc, eqb-suc-suc}
@@ -30,6 +31,18 @@ pub at_every : (n : ℕ) (p : ℕ → Bool) → ((i : ℕ) → i < n → p i ≡
 unfolding every
 at_every zero p h = refl
 at_every (suc n) p h = ap (λ (b : Bool). elim b [ true ↦ every n (λ i. p (suc i)) | false ↦ false ]) (h 0 (omega arith)) ∙ at_every n (λ i. p (suc i)) (λ i k. h (suc i) (omega arith))
+
+-- a test of all elements of a list of n, as one of each index
+pub list_all-every : {A : Type 0} (p : A → Bool) (d : A) (n : ℕ) (xs : List A) → length xs ≡ n → list_all p xs ≡ every n (λ i. p (get_or xs i d))
+unfolding every
+list_all-every p d zero [] e = refl
+list_all-every p d zero (x ∷ xs) e = absurd (omega arith)
+list_all-every p d (suc n) [] e = absurd (omega arith)
+list_all-every {A} p d (suc n) (x ∷ xs) e = ap (λ (b : Bool). p x && b) (list_all-every p d n xs (omega arith)) ∙ first (p x) (every n (λ i. p (get_or xs i d)))
+  where
+    first : (a b : Bool) → (a && b) ≡ elim a [ true ↦ b | false ↦ false ]
+    first true b = refl
+    first false b = refl
 
 pub length-listed : {A : Type 0} (n : ℕ) (f : ℕ → A) → length (listed n f) ≡ n
 unfolding listed
@@ -79,6 +92,15 @@ pub sum_ext : (n : ℕ) (f g : ℕ → ℤ) → ((i : ℕ) → i < n → f i ≡
 unfolding sum
 sum_ext zero f g h = refl
 sum_ext (suc n) f g h = ap₂ ◌+ℤ◌ (h 0 (omega arith)) (sum_ext n (λ i. f (suc i)) (λ i. g (suc i)) (λ i k. h (suc i) (omega arith)))
+
+-- one term more at the end
+sum_last : (n : ℕ) (f : ℕ → ℤ) → sum (suc n) f ≡ sum n f +ℤ f n
+unfolding sum
+sum_last zero f = omega (arith, linear)
+sum_last (suc n) f = let e = sum_last n (λ i. f (suc i)) in omega (arith, linear)
+
+pub sum_more : (n : ℕ) (f : ℕ → ℤ) → sum (n + 1) f ≡ sum n f +ℤ f n
+sum_more n f = let e : n + 1 ≡ suc n = omega arith in ap (λ (k : ℕ). sum k f) e ∙ sum_last n f
 
 pub sum-add : (n : ℕ) (f g : ℕ → ℤ) → sum n (λ i. f i +ℤ g i) ≡ sum n f +ℤ sum n g
 unfolding sum

@@ -15,11 +15,6 @@ add-product m s a b h f g e =
     ∙ int_wrap-add_left w64 s (int_wrap w64 (a *ℤ b))
     ∙ int_wrap-add_right w64 s (a *ℤ b)
 
-pub two_products : (a0 a1 b0 b1 : ℤ) → SFits w64 a0 → SFits w64 a1 → SFits w64 b0 → SFits w64 b1
-    → to_z w64 (((of_z w64 a0 * of_z w64 b0) % 2 ^ 64 + (of_z w64 a1 * of_z w64 b1) % 2 ^ 64) % 2 ^ 64) ≡ int_wrap w64 (a0 *ℤ b0 +ℤ a1 *ℤ b1)
-two_products a0 a1 b0 b1 f0 f1 g0 g1 =
-    add-product ((of_z w64 a0 * of_z w64 b0) % 2 ^ 64) (a0 *ℤ b0) a1 b1 (omega arith) f1 g1 (wrapping_mul_is w64 a0 b0 f0 g0)
-
 -- a list of reduced numbers that all fit
 pub exact-listed : (n : ℕ) (f : ℕ → ℤ) → ((i : ℕ) → i < n → SFits w64 (f i)) → listed n (λ i. int_wrap w64 (f i)) ≡ listed n f
 exact-listed n f h = listed_ext n (λ i. int_wrap w64 (f i)) f (λ i k. int_wrap_fits w64 (f i) (h i k))

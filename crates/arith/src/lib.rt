@@ -4,3 +4,4 @@
 
 pub mod kernel;
 pub mod rounding;
+pub mod size;

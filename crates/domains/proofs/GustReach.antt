@@ -6,13 +6,14 @@ use Rattle.arith.proofs.Dots.{sum-size}
 use Rattle.arith.proofs.Sums.{sum_ext, sum-pos, listed_at}
 use Rattle.dynamics.specs.declared.model.Model.{Model}
 use Rattle.dynamics.specs.Values.{middle, radius}
+use Rattle.domains.specs.Gains.{GainLimits}
 use Rattle.dynamics.proofs.Views.{radius_is, middle-size, radius-size}
 
 -- a number that is a sum wherever the sum fits, and the sum is small
 exactly : {r : ℤ} (s t : ℤ) (n : ℕ) → s ≡ t → nat_abs t ≤ n → n < 2 ^ 63 → (SFits w64 s → r ≡ s) → r ≡ t
 exactly s t n e h k x = x (subst (SFits w64) (sym e) (fits_abs t n h k)) ∙ e
 
-module _ (m : Model) (g : List ℤ) (small : (j : ℕ) → j < 2 → nat_abs (part g j) ≤ 2 ^ 22) where
+module _ (m : Model) (g : List ℤ) (small : GainLimits 2 g) where
   pub centred_size : nat_abs (sum 2 (λ j. part g j *ℤ middle m j)) ≤ 2 * (2 ^ 22 * 2 ^ 24)
   centred_size = sum-size 2 (part g) (middle m) (2 ^ 22) (2 ^ 24) small (middle-size m)
 

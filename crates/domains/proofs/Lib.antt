@@ -1,4 +1,4 @@
 pub mod BoxKept
-pub mod Passed
 pub mod GustReach
 pub mod Carried
+pub mod AllAxes

@@ -1,5 +1,5 @@
 -- The signed axes 0 to 7: +1, -1, +2, -2, +3, -3, +4, -4.
-use Rattle.std.specs.Prelude.{ℕ, ◌/◌, ◌%◌, ◌^◌, ◌≤◌, Bool, true, false, cond, ℤ, pos, negsuc, neg_ℤ, ◌==◌, unsigned_abs}
+use Rattle.std.specs.Prelude.{ℕ, ◌/◌, ◌%◌, ◌^◌, ◌≤◌, Bool, true, false, if◌then◌else◌, ℤ, pos, negsuc, neg_ℤ, ◌==◌, unsigned_abs}
 use Rattle.std.proofs.Common.{arith}
 use Rattle.arith.specs.Sums.{listed}
 use Rattle.arith.proofs.Sums.{listed_at}
@@ -9,14 +9,14 @@ use Rattle.dynamics.specs.Values.{State}
 
 -- axis a looks at part a / 2, counted from 0, with + where a is even and - where it is odd
 abbrev pub signed : ℕ → State → ℤ
-signed a x = cond (a % 2 == 0) (x (a / 2)) (neg_ℤ (x (a / 2)))
+signed a x = if a % 2 == 0 then x (a / 2) else neg_ℤ (x (a / 2))
 
 -- the entries of axis a as a direction: 1 or -1 at its part
 abbrev pub unit : ℕ → ℕ → ℤ
-unit a i = cond (i == a / 2) (cond (a % 2 == 0) (pos 1) (negsuc 0)) (pos 0)
+unit a i = if i == a / 2 then (if a % 2 == 0 then pos 1 else negsuc 0) else pos 0
 
 -- they keep a direction's limits
-unit_limit : (b c : Bool) → unsigned_abs (cond b (cond c (pos 1) (negsuc 0)) (pos 0)) ≤ 2 ^ 20
+unit_limit : (b c : Bool) → unsigned_abs (if b then (if c then pos 1 else negsuc 0) else pos 0) ≤ 2 ^ 20
 unit_limit true true = omega arith
 unit_limit true false = omega arith
 unit_limit false c = omega arith

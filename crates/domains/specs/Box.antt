@@ -1,5 +1,6 @@
 -- The interval box: a limit for each signed axis, or unbounded.
-use Rattle.std.specs.Prelude.{◌≡◌, ℕ, ◌+◌, ◌*◌, ◌/◌, ◌^◌, ◌<◌, ◌≤◌, Bool, true, false, cond, leb, List, length, ℤ, pos, negsuc, ◌+ℤ◌, ◌*ℤ◌, ◌≤ℤ◌, Some, None, Option, int_lt, nat_le, slice_set, unsigned_abs}
+use Rattle.std.specs.Prelude.{◌≡◌, ℕ, ◌+◌, ◌*◌, ◌/◌, ◌^◌, ◌<◌, ◌≤◌, Bool, if◌then◌else◌, List, length, ℤ, pos, negsuc, ◌+ℤ◌, ◌*ℤ◌, ◌≤ℤ◌, Some, None, Option, int_lt, nat_le, slice_set, unsigned_abs}
+use Rattle.std.specs.Bool.{then_some}
 use Rattle.arith.specs.Rounding.{floored}
 use Rattle.arith.specs.Sums.{sum, listed, every, part}
 use Rattle.arith.specs.Products.{spanned}
@@ -53,24 +54,20 @@ carried m u l = floored (support (through m l) u +ℤ gusts m l +ℤ pos (spanne
 
 -- no limit lies beyond ±2^30
 abbrev pub within : List ℤ → Bool
-within u = every 8 (λ a. leb (unsigned_abs (part u a)) (2 ^ 30))
-
-abbrev pub kept_if : Bool → List ℤ → Form
-kept_if true u = Some u
-kept_if false u = None
+within u = every 8 (λ a. nat_le (unsigned_abs (part u a)) (2 ^ 30))
 
 -- advance: all eight limits from the old ones; unbounded where one lies beyond ±2^30
 abbrev pub advanced : Model → Form → Form
 advanced m None = None
-advanced m (Some u) = let v = listed 8 (λ a. carried m u (unit a)) in kept_if (within v) v
+advanced m (Some u) = let v = listed 8 (λ a. carried m u (unit a)) in then_some (within v) v
 
 -- cut: the lower of limit a and t; a t beyond ±2^30 is ignored
 abbrev pub lowered : ℕ → ℤ → List ℤ → List ℤ
-lowered a t u = cond (int_lt t (part u a)) (slice_set u a t) u
+lowered a t u = if int_lt t (part u a) then slice_set u a t else u
 
 abbrev pub trimmed : SignedAxis → ℤ → Form → Form
 trimmed a t None = None
-trimmed a t (Some u) = Some (cond (nat_le (unsigned_abs t) (2 ^ 30)) (lowered a.index t u) u)
+trimmed a t (Some u) = Some (if nat_le (unsigned_abs t) (2 ^ 30) then lowered a.index t u else u)
 
 abbrev pub box : Meaning Form
 box = record { fits = Fitting; holds = Holds; filled = filled; advanced = advanced; bounded = bounded; trimmed = trimmed }

@@ -1,5 +1,6 @@
 -- The interval box is a lawful domain.
-use Rattle.std.specs.Prelude.{◌≡◌, ℕ, suc, ◌+◌, ◌*◌, ◌/◌, ◌%◌, ◌^◌, ◌<◌, ◌≤◌, Bool, true, false, cond, leb, List, length, ℤ, pos, negsuc, ◌+ℤ◌, ◌-ℤ◌, ◌*ℤ◌, neg_ℤ, ◌≤ℤ◌, Some, None, ◌==◌, int_lt, nat_le, slice_set, unsigned_abs, refl}
+use Rattle.std.specs.Prelude.{◌≡◌, ℕ, suc, ◌+◌, ◌*◌, ◌/◌, ◌%◌, ◌^◌, ◌<◌, ◌≤◌, Bool, true, false, cond, List, length, ℤ, pos, negsuc, ◌+ℤ◌, ◌-ℤ◌, ◌*ℤ◌, neg_ℤ, ◌≤ℤ◌, Some, None, ◌==◌, int_lt, nat_le, slice_set, unsigned_abs, refl}
+use Rattle.std.specs.Bool.{then_some}
 use Rattle.std.proofs.Common.{sym, subst, ◌∙◌, arith, leb-true, length-set}
 use Rattle.std.proofs.lemmas.Int.{ints}
 use Rattle.arith.specs.Sums.{listed, part}
@@ -21,7 +22,7 @@ use Rattle.dynamics.proofs.Step.{step_reach}
 use Rattle.domains.specs.declared.axis.SignedAxis.{SignedAxis}
 use Rattle.domains.specs.Axes.{signed, unit}
 use Rattle.domains.specs.Meaning.{Lawful, Answer}
-use Rattle.domains.specs.Box.{Form, Fitting, Holds, start_limit, side, support, bounded, carried, within, kept_if, advanced, lowered, trimmed, box}
+use Rattle.domains.specs.Box.{Form, Fitting, Holds, start_limit, side, support, bounded, carried, within, advanced, lowered, trimmed, box}
 use Rattle.domains.specs.AxesLemmas.{unit-dot}
 
 -- ---- the support of a box
@@ -63,7 +64,7 @@ pub start_limit_size : (s : Start) (a : ℕ) → a < 8 → unsigned_abs (start_l
 start_limit_size s a h = signed-size (a % 2 == 0) (centre s (a / 2)) (width s (a / 2)) (2 ^ 30) (s.limited.1 (a / 2) (omega arith))
 
 -- ---- eight limits written from the axis
-listed_limits : (f : ℕ → ℤ) → ((a : ℕ) → a < 8 → unsigned_abs (f a) ≤ 2 ^ 30) → Fitting (Some (listed 8 f))
+pub listed_limits : (f : ℕ → ℤ) → ((a : ℕ) → a < 8 → unsigned_abs (f a) ≤ 2 ^ 30) → Fitting (Some (listed 8 f))
 listed_limits f h = (length-listed 8 f, λ a k. rw (listed_at 8 f (pos 0) a k) (h a k))
 
 listed_holds : (f : ℕ → ℤ) (x : State) → ((a : ℕ) → a < 8 → signed a x ≤ℤ f a) → Holds (Some (listed 8 f)) x
@@ -79,11 +80,11 @@ carried-bound m u x y h p l =
     grown y a b c d h k = omega (arith, linear)
 
 -- of limits that are kept only within ±2^30
-kept_fits : (b : Bool) (v : List ℤ) → length v ≡ 8 → within v ≡ b → Fitting (kept_if b v)
+kept_fits : (b : Bool) (v : List ℤ) → length v ≡ 8 → within v ≡ b → Fitting (then_some b v)
 kept_fits false v e h = tt
-kept_fits true v e h = (e, λ a k. leb-true (unsigned_abs (part v a)) (2 ^ 30) (every_at 8 (λ a. leb (unsigned_abs (part v a)) (2 ^ 30)) h a k))
+kept_fits true v e h = (e, λ a k. leb-true (unsigned_abs (part v a)) (2 ^ 30) (every_at 8 (λ a. nat_le (unsigned_abs (part v a)) (2 ^ 30)) h a k))
 
-kept_holds : (b : Bool) (v : List ℤ) (x : State) → Holds (Some v) x → Holds (kept_if b v) x
+kept_holds : (b : Bool) (v : List ℤ) (x : State) → Holds (Some v) x → Holds (then_some b v) x
 kept_holds false v x h = tt
 kept_holds true v x h = h
 

@@ -1,3 +1,4 @@
+pub mod Gains
 pub mod Axes
 pub mod Meaning
 pub mod Box

@@ -18,9 +18,7 @@ fn axis_bound<D: Domain>(domain: &D, axis: usize) -> Option<i64>
     requires { axis < 8 }
     ensures { result ≡ D.sense.bounded (axes.axis axis) (D.form domain.now) }
 {
-    let Some(axis) = SignedAxis::new(axis) else {
-        return None;
-    };
+    let axis = SignedAxis::new(axis)?;
     domain.bound(&axis.direction())
 }
 
@@ -38,9 +36,11 @@ fn part_interval<D: Domain>(domain: &D, part: usize) -> Option<Interval>
 pub fn enclosure<D: Domain>(domain: &D) -> Option<[Interval; 4]>
     ensures { result ≡ spec.enclosed (λ a. D.sense.bounded (axes.axis a) (D.form domain.now)) }
 {
-    let first = part_interval(domain, 0)?;
-    let second = part_interval(domain, 1)?;
-    let third = part_interval(domain, 2)?;
-    let fourth = part_interval(domain, 3)?;
-    Some([first, second, third, fourth])
+    // `try_from_fn` is no plainer: it takes a `Result`, and these are options.
+    Some([
+        part_interval(domain, 0)?,
+        part_interval(domain, 1)?,
+        part_interval(domain, 2)?,
+        part_interval(domain, 3)?,
+    ])
 }

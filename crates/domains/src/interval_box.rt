@@ -1,5 +1,6 @@
 //! The interval box: a limit for each signed axis, or unbounded.
-ghost use Rattle.std.specs.Prelude.{◌≡◌, ◌%◌, ◌^◌, ◌<◌, ◌≤◌, neg_ℤ, if◌then◌else◌, None, nat_eq, nat_le, unsigned_abs};
+ghost use Rattle.std.specs.Prelude.{◌≡◌, ◌^◌, ◌<◌, ◌≤◌, if◌then◌else◌, None, nat_le, unsigned_abs};
+ghost use Rattle.std.specs.Bool.{then_some};
 ghost use Rattle.arith.specs.Sums.{listed};
 ghost use Rattle.domains.specs.Axes.{unit};
 ghost use Rattle.domains.specs.Box as spec;
@@ -11,6 +12,7 @@ use super::axis::SignedAxis;
 use super::domain::Domain;
 use super::limits::Limits;
 use super::support::{carried_limit, support};
+use arith::size::is_within;
 use dynamics::direction::Direction;
 use dynamics::model::Model;
 use dynamics::start::Start;
@@ -33,24 +35,20 @@ impl IntervalBox {
     }
 }
 
-/// A part with the sign of an axis.
-fn signed(axis: usize, z: i64) -> i64
-    requires { unsigned_abs z ≤ 2 ^ 62 }
-    ensures { result ≡ (if nat_eq (axis % 2) 0 then z else neg_ℤ z) }
-{
-    if axis % 2 == 0 { z } else { -z }
-}
-
-/// The limits of a start: ±p + w on each axis.
-fn start_limits(start: &Start) -> Limits
-    ensures { result.upper ≡ listed 8 (spec.start_limit start.now) }
+/// The limit of a start on an axis: ±p + w.
+fn start_limit(start: &Start, axis: SignedAxis) -> i64
+    ensures { result ≡ spec.start_limit start.now axis.index }
 {
     let centres = start.centres();
     let radii = start.radii();
-    let mut upper = [0; 8];
-    for axis in 0..8 {
-        upper[axis] = signed(axis, centres[axis / 2]) + radii[axis / 2];
-    }
+    axis.signed(centres[axis.part()]) + radii[axis.part()]
+}
+
+/// The limits of a start on all axes.
+fn start_limits(start: &Start) -> Limits
+    ensures { result.upper ≡ listed 8 (spec.start_limit start.now) }
+{
+    let upper = SignedAxis::all().map(|axis| start_limit(start, axis));
     Limits { upper }
 }
 
@@ -58,30 +56,15 @@ fn start_limits(start: &Start) -> Limits
 fn carried_limits(model: &Model, limits: Limits) -> [i64; 8]
     ensures { result ≡ listed 8 (λ a. spec.carried model.now limits.upper (unit a)) }
 {
-    let mut upper = [0; 8];
-    for axis in 0..8 {
-        upper[axis] = carried_limit(model, limits, axis);
-    }
-    upper
-}
-
-/// Whether no limit lies beyond ±2^30.
-fn is_within(upper: [i64; 8]) -> bool
-    ensures { result ≡ spec.within upper }
-{
-    for axis in 0..8 {
-        if upper[axis].unsigned_abs() > LIMIT {
-            return false;
-        }
-    }
-    true
+    SignedAxis::all().map(|axis| carried_limit(model, limits, axis))
 }
 
 /// The limits, absent where one lies beyond ±2^30.
 fn checked(upper: [i64; 8]) -> Option<Limits>
-    ensures { limits_of result ≡ spec.kept_if (spec.within upper) upper }
+    ensures { limits_of result ≡ then_some (spec.within upper) upper }
 {
-    if is_within(upper) {
+    // `then` is no plainer: its closure would need a clause that the limits are within.
+    if is_within(&upper, LIMIT) {
         Some(Limits { upper })
     } else {
         None
@@ -89,16 +72,14 @@ fn checked(upper: [i64; 8]) -> Option<Limits>
 }
 
 /// The limits with the lower of two on one axis; a limit beyond ±2^30 is ignored.
-fn lowered(limits: Limits, axis: SignedAxis, limit: i64) -> Limits
+fn lowered(mut limits: Limits, axis: SignedAxis, limit: i64) -> Limits
     ensures { result.upper ≡ (if nat_le (unsigned_abs limit) (2 ^ 30) then spec.lowered axis.index limit limits.upper else limits.upper) }
 {
     let index = axis.index();
-    if limit.unsigned_abs() > LIMIT || limit >= limits.upper[index] {
-        return limits;
+    if limit.unsigned_abs() <= LIMIT && limit < limits.upper[index] {
+        limits.upper[index] = limit;
     }
-    let mut upper = limits.upper;
-    upper[index] = limit;
-    Limits { upper }
+    limits
 }
 
 impl Domain for IntervalBox {
@@ -117,23 +98,17 @@ impl Domain for IntervalBox {
     }
 
     fn advance(&mut self, model: &Model) {
-        let Some(limits) = self.limits else {
-            return;
-        };
-        self.limits = checked(carried_limits(model, limits));
+        self.limits = self
+            .limits
+            .and_then(|limits| checked(carried_limits(model, limits)));
     }
 
     fn bound(&self, direction: &Direction) -> Option<i64> {
-        let Some(limits) = self.limits else {
-            return None;
-        };
+        let limits = self.limits?;
         Some(support(direction.entries(), limits))
     }
 
     fn cut(&mut self, axis: SignedAxis, limit: i64) {
-        let Some(limits) = self.limits else {
-            return;
-        };
-        self.limits = Some(lowered(limits, axis, limit));
+        self.limits = self.limits.map(|limits| lowered(limits, axis, limit));
     }
 }

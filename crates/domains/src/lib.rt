@@ -7,4 +7,3 @@ pub mod enclosure;
 pub mod interval_box;
 mod limits;
 mod support;
-mod unit;

@@ -65,6 +65,11 @@ keep_out_threshold l t e f g =
     ap (λ o. ranged o None) (append_good (row_numbers l) (within (pos (2 ^ 52)) t ∷ []) 0 (ranged-none (first_outside 0 (row_numbers l)) None e).0
     ∙ ap (λ n. first_outside 4 (n ∷ [])) (sym f) ∙ sym g)
 
+-- what is refused by a range is refused, whatever the sums give
+pub at_once : (o : Option ℕ) (s : Option (ℕ × ℕ)) (q : ℕ × ℕ) → ranged o None ≡ Some q → ranged o s ≡ Some q
+at_once None s q e = let z : ◌≡◌ {A = ℕ} 0 1 = cc in absurd (omega arith)
+at_once (Some p) s q e = e
+
 -- ---- a start
 pub passing_at : (n : ℕ) (k : ℕ) (t : ℕ → Bool) → first_passing k n t ≡ None → (i : ℕ) → k ≤ i → i < k + n → t i ≡ false
 unfolding first_passing
@@ -160,15 +165,22 @@ channel_exact c k =
 
 -- the numbers of a model, piece by piece
 module _ (a : List (List ℤ)) (c d : Channel) where
-  pub model_in_matrix : (p : ℕ) → first_outside 0 (joined (matrix_rows a)) ≡ Some p → model_refusal a c d ≡ Some (5, p)
-  model_in_matrix p e = ap (λ o. ranged o (model_sums c d)) (append_bad (joined (matrix_rows a)) (channel_numbers c ++ channel_numbers d) 0 p e)
+  refused_first : (ns ms : List Ranged) (k : ℕ) (q : ℕ × ℕ) → ranged (first_outside k ns) None ≡ Some q → ranged (first_outside k (ns ++ ms)) (model_sums c d) ≡ Some q
+  refused_first ns ms k q e = go (first_outside k ns) refl e
+    where
+      go : (o : Option ℕ) → first_outside k ns ≡ o → ranged o None ≡ Some q → ranged (first_outside k (ns ++ ms)) (model_sums c d) ≡ Some q
+      go None f e = let z : ◌≡◌ {A = ℕ} 0 1 = cc in absurd (omega arith)
+      go (Some p) f e = ap (λ o. ranged o (model_sums c d)) (append_bad ns ms k p f) ∙ e
+
+  pub model_in_matrix : (q : ℕ × ℕ) → ranged (first_outside 0 (joined (matrix_rows a))) None ≡ Some q → model_refusal a c d ≡ Some q
+  model_in_matrix q e = refused_first (joined (matrix_rows a)) (channel_numbers c ++ channel_numbers d) 0 q e
 
   after_matrix : first_outside 0 (joined (matrix_rows a)) ≡ None → first_outside 0 (model_numbers a c d) ≡ first_outside 16 (channel_numbers c ++ channel_numbers d)
   unfolding joined
   after_matrix e = append_good (joined (matrix_rows a)) (channel_numbers c ++ channel_numbers d) 0 e
 
-  pub model_in_first : (p : ℕ) → first_outside 0 (joined (matrix_rows a)) ≡ None → first_outside 16 (channel_numbers c) ≡ Some p → model_refusal a c d ≡ Some (5, p)
-  model_in_first p e f = ap (λ o. ranged o (model_sums c d)) (after_matrix e ∙ append_bad (channel_numbers c) (channel_numbers d) 16 p f)
+  pub model_in_first : (q : ℕ × ℕ) → first_outside 0 (joined (matrix_rows a)) ≡ None → ranged (first_outside 16 (channel_numbers c)) None ≡ Some q → model_refusal a c d ≡ Some q
+  model_in_first q e f = ap (λ o. ranged o (model_sums c d)) (after_matrix e) ∙ refused_first (channel_numbers c) (channel_numbers d) 16 q f
 
   after_first : first_outside 0 (joined (matrix_rows a)) ≡ None → first_outside 16 (channel_numbers c) ≡ None → first_outside 0 (model_numbers a c d) ≡ first_outside 22 (channel_numbers d)
   after_first e f = after_matrix e ∙ append_good (channel_numbers c) (channel_numbers d) 16 f

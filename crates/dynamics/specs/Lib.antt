@@ -1,5 +1,6 @@
 pub mod Ranges
 pub mod Refusals
+pub mod RefusalTexts
 pub mod Limits
 pub mod Values
 pub mod Runs

@@ -1,9 +1,11 @@
 //! What the rounding of each row may hide: nothing where the row is whole.
 ghost use Rattle.std.specs.Prelude.{◌≡◌, ◌&&◌, pos};
+ghost use Rattle.std.specs.List.{list_all};
 ghost use Rattle.arith.specs.Sums.{part, listed, every};
 ghost use Rattle.dynamics.specs.Rows.{multiple, allowed, allowance};
 
 use super::model::Model;
+use std::array;
 
 /// Whether a number is divisible by 4096.
 fn is_multiple(z: i64) -> bool
@@ -12,16 +14,18 @@ fn is_multiple(z: i64) -> bool
     z.unsigned_abs() % 4096 == 0
 }
 
+/// Whether every number is divisible by 4096.
+fn all_multiples(numbers: &[i64]) -> bool
+    ensures { result ≡ list_all multiple numbers.now }
+{
+    numbers.iter().all(|z| is_multiple(*z))
+}
+
 /// Whether every entry of a row of A and of B is divisible by 4096.
 fn is_whole(a: [i64; 4], b: [i64; 2]) -> bool
     ensures { result ≡ (every 4 (λ j. multiple (part a j)) && every 2 (λ j. multiple (part b j))) }
 {
-    is_multiple(a[0])
-        && is_multiple(a[1])
-        && is_multiple(a[2])
-        && is_multiple(a[3])
-        && is_multiple(b[0])
-        && is_multiple(b[1])
+    all_multiples(&a) && all_multiples(&b)
 }
 
 /// The allowance of one row.
@@ -38,11 +42,6 @@ impl Model {
     {
         let a = self.matrix();
         let b = self.gains();
-        [
-            row_allowance(a[0], b[0]),
-            row_allowance(a[1], b[1]),
-            row_allowance(a[2], b[2]),
-            row_allowance(a[3], b[3]),
-        ]
+        array::from_fn(|i| row_allowance(a[i], b[i]))
     }
 }

@@ -4,7 +4,7 @@ ghost use Rattle.arith.specs.Sums.{part};
 ghost use Rattle.dynamics.specs.Refusals.{number, place, direction_refusal};
 ghost use Rattle.dynamics.specs.Limits.{DirectionLimits, Exactly};
 
-use super::ranges::{first_outside, row_numbers};
+use super::ranges::{check_ranges, row_numbers};
 use super::refusal::Refusal;
 
 #[derive(Clone, Copy)]
@@ -15,13 +15,12 @@ pub struct Direction {
 
 impl Direction {
     /// The direction with these entries, or the place of the first that is out of range.
+    #[tactic(auto, using(crate::proofs::Checks::direction_exact))]
     pub fn new(entries: [i64; 4]) -> Result<Direction, Refusal>
         ensures value { MatchResult result (λ d. (direction_refusal entries ≡ None) × (d.entries ≡ entries)) (λ e. direction_refusal entries ≡ Some (number e, place e)) }
         ensures limits { Exactly (direction_refusal entries ≡ None) (DirectionLimits entries) }
     {
-        if let Some(place) = first_outside(&row_numbers(entries), 0) {
-            return Err(Refusal::OutOfRange { place });
-        }
+        check_ranges(&row_numbers(entries), 0)?;
         Ok(Direction { entries })
     }
 

@@ -4,7 +4,7 @@ ghost use Rattle.dynamics.specs.Refusals.{number, place, channel_numbers, model_
 ghost use Rattle.dynamics.specs.Limits.{MatrixLimits, GustLimits, ModelLimits, Exactly};
 
 use super::channel::Channel;
-use super::ranges::{Ranged, first_outside, first_outside_matrix, is_too_large};
+use super::ranges::{Ranged, check_matrix, check_ranges, check_sum};
 use super::refusal::Refusal;
 
 /// `matrix` is A by rows, `gains` is B by rows, one row for each part; `centres` and `radii` are
@@ -54,21 +54,11 @@ impl Model {
         ensures value { MatchResult result (λ m. (model_refusal matrix first second ≡ None) × (m.matrix ≡ matrix) × (m.gains ≡ by_parts first.gains second.gains) × (m.centres ≡ first.centre ∷ (second.centre ∷ [])) × (m.radii ≡ first.radius ∷ (second.radius ∷ []))) (λ e. model_refusal matrix first second ≡ Some (number e, place e)) }
         ensures limits { Exactly (model_refusal matrix first second ≡ None) (ModelLimits matrix (by_parts first.gains second.gains) (first.centre ∷ (second.centre ∷ [])) (first.radius ∷ (second.radius ∷ []))) }
     {
-        if let Some(place) = first_outside_matrix(matrix) {
-            return Err(Refusal::OutOfRange { place });
-        }
-        if let Some(place) = first_outside(&channel_numbers(first), 16) {
-            return Err(Refusal::OutOfRange { place });
-        }
-        if let Some(place) = first_outside(&channel_numbers(second), 22) {
-            return Err(Refusal::OutOfRange { place });
-        }
-        if is_too_large(first.centre, first.radius, 16777216) {
-            return Err(Refusal::TooLarge { place: 22 });
-        }
-        if is_too_large(second.centre, second.radius, 16777216) {
-            return Err(Refusal::TooLarge { place: 28 });
-        }
+        check_matrix(matrix)?;
+        check_ranges(&channel_numbers(first), 16)?;
+        check_ranges(&channel_numbers(second), 22)?;
+        check_sum(first.centre, first.radius, 16777216, 22)?;
+        check_sum(second.centre, second.radius, 16777216, 28)?;
         Ok(Model {
             matrix,
             gains: by_parts(first.gains, second.gains),

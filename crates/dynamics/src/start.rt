@@ -5,7 +5,7 @@ ghost use Rattle.dynamics.specs.Limits.{StartLimits, Exactly};
 
 mod halves;
 
-use super::ranges::{Ranged, first_outside, is_too_large};
+use super::ranges::{Ranged, check_ranges, is_too_large};
 use super::refusal::Refusal;
 
 #[derive(Clone, Copy)]
@@ -47,13 +47,12 @@ fn first_wide_part(centres: [i64; 4], radii: [i64; 4]) -> Option<usize>
 impl Start {
     /// The start of these numbers; or the place of the first out of range, in the order p1 w1 p2 w2
     /// p3 w3 p4 w4; or the place of the first radius that is too large with its centre.
+    #[tactic(auto, using(crate::proofs::Checks::start_exact))]
     pub fn new(centres: [i64; 4], radii: [i64; 4]) -> Result<Start, Refusal>
         ensures value { MatchResult result (λ s. (start_refusal centres radii ≡ None) × (s.centres ≡ centres) × (s.radii ≡ radii)) (λ e. start_refusal centres radii ≡ Some (number e, place e)) }
         ensures limits { Exactly (start_refusal centres radii ≡ None) (StartLimits centres radii) }
     {
-        if let Some(place) = first_outside(&start_numbers(centres, radii), 0) {
-            return Err(Refusal::OutOfRange { place });
-        }
+        check_ranges(&start_numbers(centres, radii), 0)?;
         if let Some(part) = first_wide_part(centres, radii) {
             return Err(Refusal::TooLarge {
                 place: 2 * part + 2,

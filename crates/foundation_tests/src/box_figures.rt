@@ -1,32 +1,16 @@
 //! The interval box over several steps.
-ghost use Rattle.std.specs.Prelude.{◌≡◌, ℕ, ◌<◌, pos, IfOk, if◌then◌else◌, None, nat_eq};
-ghost use Rattle.arith.specs.Sums.{entry};
+ghost use Rattle.std.specs.Prelude.{◌≡◌, IfOk, None};
+ghost use Rattle.dynamics.specs.declared.start.Start.{Start};
 ghost use Rattle.domains.specs.Box as box;
 ghost use Rattle.domains.specs.BoxForms.{limits_of};
 
-use domains::axis::SignedAxis;
 use domains::domain::Domain;
 use domains::enclosure::enclosure;
 use domains::interval_box::IntervalBox;
-use dynamics::direction::Direction;
-use dynamics::model::Model;
-use dynamics::start::Start;
 use samples::intervals::intervals;
-use samples::values::{channel, model, start};
+use samples::values::{IDENTITY, axis, channel, direction, model, start};
 use std::test::Fail;
 use unbounded::Unbounded;
-
-/// The identity with one entry in its place.
-fn identity(first: i64) -> [[i64; 4]; 4]
-    ensures { (i j : ℕ) → i < 4 → j < 4 → entry result i j ≡ (if nat_eq i j then (if nat_eq i 0 then first else pos 4096) else pos 0) }
-{
-    [
-        [first, 0, 0, 0],
-        [0, 4096, 0, 0],
-        [0, 0, 4096, 0],
-        [0, 0, 0, 4096],
-    ]
-}
 
 /// A box filled with the start of these numbers.
 fn filled(centres: [i64; 4], radii: [i64; 4]) -> Result<IntervalBox, Fail>
@@ -70,14 +54,11 @@ fn three_steps(rt: HostRuntime) -> Result<(), Fail> {
         enclosure(&set),
         intervals([1347, 1374, -1574, -1516, 13443, 13928, 0, 3])
     );
-    let Ok(near) = Direction::new([3, -2, 0, 5]) else {
-        return Err(Fail::new("a direction was refused"));
-    };
-    let Ok(far) = Direction::new([-1048576, 1048576, -1, 0]) else {
-        return Err(Fail::new("a direction was refused"));
-    };
-    assert_eq!(rt; set.bound(&near), Some(7285));
-    assert_eq!(rt; set.bound(&far), Some(-3002086531));
+    assert_eq!(rt; set.bound(&direction([3, -2, 0, 5])?), Some(7285));
+    assert_eq!(rt;
+        set.bound(&direction([-1048576, 1048576, -1, 0])?),
+        Some(-3002086531)
+    );
     Ok(())
 }
 
@@ -85,13 +66,13 @@ fn three_steps(rt: HostRuntime) -> Result<(), Fail> {
 fn a_limit_of_two_to_the_thirty_is_kept(rt: HostRuntime) -> Result<(), Fail> {
     let still = channel([0; 4], 0, 0);
     let mut set = filled([1073741824, 0, 0, 0], [0; 4])?;
-    set.advance(&model(identity(4096), still, still)?);
+    set.advance(&model(IDENTITY, still, still)?);
     assert_eq!(rt;
         enclosure(&set),
         intervals([1073741824, 1073741824, 0, 0, 0, 0, 0, 0])
     );
     let mut pushed = filled([1073741823, 0, 0, 0], [1, 0, 0, 0])?;
-    pushed.advance(&model(identity(4096), channel([4096, 0, 0, 0], -1, 1), still)?);
+    pushed.advance(&model(IDENTITY, channel([4096, 0, 0, 0], -1, 1), still)?);
     assert_eq!(rt;
         enclosure(&pushed),
         intervals([1073741820, 1073741824, 0, 0, 0, 0, 0, 0])
@@ -102,28 +83,21 @@ fn a_limit_of_two_to_the_thirty_is_kept(rt: HostRuntime) -> Result<(), Fail> {
 #[test]
 fn a_limit_beyond_makes_it_unbounded_until_fill(rt: HostRuntime) -> Result<(), Fail> {
     let still = channel([0; 4], 0, 0);
-    let loops = model(identity(4096), channel([4096, 0, 0, 0], 1, 0), still)?;
+    let loops = model(IDENTITY, channel([4096, 0, 0, 0], 1, 0), still)?;
     let mut set = filled([1073741824, 0, 0, 0], [0; 4])?;
     set.advance(&loops);
     assert_eq!(rt; enclosure(&set), None);
     set.advance(&model([[0; 4]; 4], still, still)?);
     assert_eq!(rt; enclosure(&set), None);
-    let Ok(start) = Start::new([1, 2, 3, 4], [0, 1, 0, 0]) else {
-        return Err(Fail::new("the start was refused"));
-    };
-    set.fill(&start);
+    set.fill(&start([1, 2, 3, 4], [0, 1, 0, 0])?);
     assert_eq!(rt; enclosure(&set), intervals([1, 1, 1, 3, 3, 3, 4, 4]));
     Ok(())
 }
 
 #[test]
 fn cuts(rt: HostRuntime) -> Result<(), Fail> {
-    let Some(plus_one) = SignedAxis::new(0) else {
-        return Err(Fail::new("an axis is absent"));
-    };
-    let Some(minus_two) = SignedAxis::new(3) else {
-        return Err(Fail::new("an axis is absent"));
-    };
+    let plus_one = axis(0)?;
+    let minus_two = axis(3)?;
     let mut set = filled([0, 0, 0, 0], [10, 10, 0, 0])?;
     set.cut(plus_one, 4);
     set.cut(plus_one, 5);
@@ -144,11 +118,8 @@ fn cuts(rt: HostRuntime) -> Result<(), Fail> {
 
 #[test]
 fn an_unbounded_domain_is_one_too(rt: HostRuntime) -> Result<(), Fail> {
-    let Ok(start) = Start::new([1, 2, 3, 4], [0; 4]) else {
-        return Err(Fail::new("the start was refused"));
-    };
     let mut set = Unbounded;
-    set.fill(&start);
+    set.fill(&start([1, 2, 3, 4], [0; 4])?);
     assert_eq!(rt; enclosure(&set), None);
     Ok(())
 }

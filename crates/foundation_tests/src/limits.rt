@@ -1,5 +1,5 @@
 //! Each limit exactly met, and exceeded by one.
-ghost use Rattle.std.specs.Prelude.{◌≡◌, replicate, pos, Some, None, Ok, Err};
+ghost use Rattle.std.specs.Prelude.{◌≡◌, replicate, pos, Some};
 
 use dynamics::channel::Channel;
 use dynamics::direction::Direction;
@@ -9,16 +9,6 @@ use dynamics::refusal::Refusal;
 use dynamics::start::Start;
 use samples::values::channel;
 use std::test::Fail;
-
-/// The refusal of numbers, if any.
-fn refusal<T: Drop>(made: Result<T, Refusal>) -> Option<Refusal>
-    ensures { elim made [ Ok v ↦ result ≡ None | Err e ↦ result ≡ Some e ] }
-{
-    match made {
-        Ok(_) => None,
-        Err(refusal) => Some(refusal),
-    }
-}
 
 fn out_of_range(place: usize) -> Option<Refusal>
     ensures { result ≡ Some (Refusal.OutOfRange place) }
@@ -47,21 +37,12 @@ fn gust(centre: i64, radius: i64) -> Channel
 
 #[test]
 fn directions(rt: HostRuntime) {
-    assert_eq!(rt; refusal(Direction::new([1048576, -1048576, 0, 1])), None);
+    assert_eq!(rt; Direction::new([1048576, -1048576, 0, 1]).err(), None);
+    assert_eq!(rt; Direction::new([1048577, 0, 0, 0]).err(), out_of_range(1));
+    assert_eq!(rt; Direction::new([0, -1048577, 0, 0]).err(), out_of_range(2));
+    assert_eq!(rt; Direction::new([0, 0, 0, i64::MIN]).err(), out_of_range(4));
     assert_eq!(rt;
-        refusal(Direction::new([1048577, 0, 0, 0])),
-        out_of_range(1)
-    );
-    assert_eq!(rt;
-        refusal(Direction::new([0, -1048577, 0, 0])),
-        out_of_range(2)
-    );
-    assert_eq!(rt;
-        refusal(Direction::new([0, 0, 0, i64::MIN])),
-        out_of_range(4)
-    );
-    assert_eq!(rt;
-        refusal(Direction::new([0, 0, 1048577, 1048577])),
+        Direction::new([0, 0, 1048577, 1048577]).err(),
         out_of_range(3)
     );
 }
@@ -69,18 +50,18 @@ fn directions(rt: HostRuntime) {
 #[test]
 fn keep_outs(rt: HostRuntime) {
     let limit = 4503599627370496;
-    assert_eq!(rt; refusal(KeepOut::new([1, 0, 0, 0], limit)), None);
-    assert_eq!(rt; refusal(KeepOut::new([1, 0, 0, 0], -limit)), None);
+    assert_eq!(rt; KeepOut::new([1, 0, 0, 0], limit).err(), None);
+    assert_eq!(rt; KeepOut::new([1, 0, 0, 0], -limit).err(), None);
     assert_eq!(rt;
-        refusal(KeepOut::new([1, 0, 0, 0], limit + 1)),
+        KeepOut::new([1, 0, 0, 0], limit + 1).err(),
         out_of_range(5)
     );
     assert_eq!(rt;
-        refusal(KeepOut::new([1, 0, 0, 0], -limit - 1)),
+        KeepOut::new([1, 0, 0, 0], -limit - 1).err(),
         out_of_range(5)
     );
     assert_eq!(rt;
-        refusal(KeepOut::new([0, 0, 0, -1048577], limit + 1)),
+        KeepOut::new([0, 0, 0, -1048577], limit + 1).err(),
         out_of_range(4)
     );
 }
@@ -89,41 +70,41 @@ fn keep_outs(rt: HostRuntime) {
 fn starts(rt: HostRuntime) {
     let limit = 1073741824;
     assert_eq!(rt;
-        refusal(Start::new([limit, -limit, 0, 5], [0, 0, limit, 0])),
+        Start::new([limit, -limit, 0, 5], [0, 0, limit, 0]).err(),
         None
     );
     assert_eq!(rt;
-        refusal(Start::new([limit, 0, 0, 0], [1, 0, 0, 0])),
+        Start::new([limit, 0, 0, 0], [1, 0, 0, 0]).err(),
         too_large(2)
     );
     assert_eq!(rt;
-        refusal(Start::new([-limit, 0, 0, 0], [1, 0, 0, 0])),
+        Start::new([-limit, 0, 0, 0], [1, 0, 0, 0]).err(),
         too_large(2)
     );
     assert_eq!(rt;
-        refusal(Start::new([0, 0, 0, 1], [0, 0, 0, limit])),
+        Start::new([0, 0, 0, 1], [0, 0, 0, limit]).err(),
         too_large(8)
     );
     assert_eq!(rt;
-        refusal(Start::new([limit + 1, 0, 0, 0], [0; 4])),
+        Start::new([limit + 1, 0, 0, 0], [0; 4]).err(),
         out_of_range(1)
     );
     assert_eq!(rt;
-        refusal(Start::new([0; 4], [0, limit + 1, 0, 0])),
+        Start::new([0; 4], [0, limit + 1, 0, 0]).err(),
         out_of_range(4)
     );
-    assert_eq!(rt; refusal(Start::new([0; 4], [0, 0, -1, 0])), out_of_range(6));
+    assert_eq!(rt; Start::new([0; 4], [0, 0, -1, 0]).err(), out_of_range(6));
 }
 
 #[test]
 fn a_range_of_a_start_comes_before_a_sum(rt: HostRuntime) {
     let limit = 1073741824;
     assert_eq!(rt;
-        refusal(Start::new([limit, 0, 0, 0], [1, 0, 0, -1])),
+        Start::new([limit, 0, 0, 0], [1, 0, 0, -1]).err(),
         out_of_range(8)
     );
     assert_eq!(rt;
-        refusal(Start::new([limit, limit, 0, 0], [0, 1, 0, 0])),
+        Start::new([limit, limit, 0, 0], [0, 1, 0, 0]).err(),
         too_large(4)
     );
 }
@@ -132,21 +113,18 @@ fn a_range_of_a_start_comes_before_a_sum(rt: HostRuntime) {
 fn entries_of_a_model(rt: HostRuntime) {
     let most = 1048576;
     assert_eq!(rt;
-        refusal(Model::new([[most, -most, 0, 1]; 4], still(), still())),
+        Model::new([[most, -most, 0, 1]; 4], still(), still()).err(),
         None
     );
     let mut matrix = [[0; 4]; 4];
     matrix[2][1] = most + 1;
     matrix[3][0] = -most - 1;
     assert_eq!(rt;
-        refusal(Model::new(matrix, still(), still())),
+        Model::new(matrix, still(), still()).err(),
         out_of_range(10)
     );
     matrix[0][3] = -most - 1;
-    assert_eq!(rt;
-        refusal(Model::new(matrix, still(), still())),
-        out_of_range(4)
-    );
+    assert_eq!(rt; Model::new(matrix, still(), still()).err(), out_of_range(4));
 }
 
 #[test]
@@ -154,31 +132,31 @@ fn gusts_of_a_model(rt: HostRuntime) {
     let limit = 16777216;
     let zero = [[0; 4]; 4];
     assert_eq!(rt;
-        refusal(Model::new(zero, gust(limit, 0), gust(-limit, 0))),
+        Model::new(zero, gust(limit, 0), gust(-limit, 0)).err(),
         None
     );
     assert_eq!(rt;
-        refusal(Model::new(zero, gust(0, limit), gust(1, limit - 1))),
+        Model::new(zero, gust(0, limit), gust(1, limit - 1)).err(),
         None
     );
     assert_eq!(rt;
-        refusal(Model::new(zero, gust(limit, 1), still())),
+        Model::new(zero, gust(limit, 1), still()).err(),
         too_large(22)
     );
     assert_eq!(rt;
-        refusal(Model::new(zero, still(), gust(-1, limit))),
+        Model::new(zero, still(), gust(-1, limit)).err(),
         too_large(28)
     );
     assert_eq!(rt;
-        refusal(Model::new(zero, gust(limit + 1, 0), still())),
+        Model::new(zero, gust(limit + 1, 0), still()).err(),
         out_of_range(21)
     );
     assert_eq!(rt;
-        refusal(Model::new(zero, gust(0, -1), still())),
+        Model::new(zero, gust(0, -1), still()).err(),
         out_of_range(22)
     );
     assert_eq!(rt;
-        refusal(Model::new(zero, still(), gust(0, limit + 1))),
+        Model::new(zero, still(), gust(0, limit + 1)).err(),
         out_of_range(28)
     );
 }
@@ -188,12 +166,12 @@ fn a_range_of_a_model_comes_before_a_sum(rt: HostRuntime) {
     let mut second = still();
     second.gains[3] = 1048577;
     assert_eq!(rt;
-        refusal(Model::new([[0; 4]; 4], gust(16777216, 1), second)),
+        Model::new([[0; 4]; 4], gust(16777216, 1), second).err(),
         out_of_range(26)
     );
     second.gains[0] = -1048577;
     assert_eq!(rt;
-        refusal(Model::new([[0; 4]; 4], gust(16777216, 1), second)),
+        Model::new([[0; 4]; 4], gust(16777216, 1), second).err(),
         out_of_range(23)
     );
 }
@@ -208,9 +186,9 @@ fn whole_rows(rt: HostRuntime) -> Result<(), Fail> {
     ];
     let mut first = still();
     first.gains = [0, 4096, 0, 2048];
-    let Ok(model) = Model::new(matrix, first, still()) else {
-        return Err(Fail::new("the model was refused"));
-    };
-    assert_eq!(rt; model.allowances(), [0, 0, 4095, 4095]);
+    assert_eq!(rt;
+        Model::new(matrix, first, still())?.allowances(),
+        [0, 0, 4095, 4095]
+    );
     Ok(())
 }

@@ -1,5 +1,6 @@
 -- The reduced product of two domains.
-use Rattle.std.specs.Prelude.{cond, List, [], ◌∷◌, ℤ, Some, None, Option, int_lt}
+use Rattle.std.specs.Prelude.{List, [], ◌∷◌, ℤ, Some, None, Option}
+use Rattle.std.specs.Int.{int_min}
 use Rattle.domains.specs.declared.axis.SignedAxis.{SignedAxis}
 use Rattle.domains.specs.AllAxes.{all_axes}
 use Rattle.domains.specs.Axes.{axis}
@@ -9,7 +10,7 @@ use Rattle.domains.specs.Meaning.{Meaning}
 abbrev pub lesser : Option ℤ → Option ℤ → Option ℤ
 lesser None b = b
 lesser (Some x) None = Some x
-lesser (Some x) (Some y) = cond (int_lt y x) (Some y) (Some x)
+lesser (Some x) (Some y) = Some (int_min x y)
 
 -- cut goes to both sides; an absent limit cuts nothing
 abbrev pub cut_both : {P Q : Type 0} → Meaning P → Meaning Q → SignedAxis → Option ℤ → P × Q → P × Q

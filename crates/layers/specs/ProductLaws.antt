@@ -17,7 +17,7 @@ lesser_answer None b P h k = k
 lesser_answer (Some x) None P h k = h
 lesser_answer (Some x) (Some y) P h k = go (int_lt y x)
   where
-    go : (c : Bool) → Answer (cond c (Some y) (Some x)) P
+    go : (c : Bool) → P (cond c y x)
     go true = k
     go false = h
 

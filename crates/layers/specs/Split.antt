@@ -1,5 +1,6 @@
 -- Two domains of one kind, each from one half of the start.
-use Rattle.std.specs.Prelude.{cond, ◌⊎◌, ℤ, Some, None, Option, int_lt}
+use Rattle.std.specs.Prelude.{◌⊎◌, ℤ, Some, None, Option}
+use Rattle.std.specs.Int.{int_max}
 use Rattle.dynamics.specs.declared.start.Start.{Start}
 use Rattle.dynamics.specs.Halves.{half_radii, lower_centres, upper_centres}
 use Rattle.dynamics.proofs.Halves.{lower_limits, upper_limits}
@@ -9,7 +10,7 @@ use Rattle.domains.specs.Meaning.{Meaning}
 abbrev pub greater : Option ℤ → Option ℤ → Option ℤ
 greater None b = None
 greater (Some x) None = None
-greater (Some x) (Some y) = cond (int_lt x y) (Some y) (Some x)
+greater (Some x) (Some y) = Some (int_max x y)
 
 -- the halves of a start on its widest part
 abbrev pub lower_half : Start → Start

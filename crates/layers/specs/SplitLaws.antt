@@ -1,7 +1,7 @@
 -- The split of a lawful domain is lawful.
-use Rattle.std.specs.Prelude.{◌≡◌, ◌^◌, ◌≤◌, Bool, true, false, cond, ℤ, ◌≤ℤ◌, Some, None, Option, int_lt, unsigned_abs, refl}
+use Rattle.std.specs.Prelude.{◌^◌, ◌≤◌, Bool, true, false, cond, ℤ, ◌≤ℤ◌, Some, None, Option, int_lt, unsigned_abs, refl}
 use Rattle.std.proofs.Common.{inl, inr, ⊎_elim, arith}
-use Rattle.std.proofs.lemmas.Int.{ints}
+use Rattle.std.proofs.lemmas.Int.{ints, int_max_is}
 use Rattle.arith.specs.Products.{dot}
 use Rattle.dynamics.specs.Runs.{Started}
 use Rattle.dynamics.specs.Values.{along}
@@ -13,30 +13,22 @@ use Rattle.layers.specs.Split.{greater, lower_half, upper_half, split}
 greater_answer : (a b : Option ℤ) (P : ℤ → Type 0) → Answer a P → Answer b P → Answer (greater a b) P
 greater_answer None b P h k = tt
 greater_answer (Some x) None P h k = tt
-greater_answer (Some x) (Some y) P h k = go (int_lt x y)
+greater_answer (Some x) (Some y) P h k = go (int_lt y x)
   where
-    go : (c : Bool) → Answer (cond c (Some y) (Some x)) P
-    go true = k
-    go false = h
+    go : (c : Bool) → P (cond c x y)
+    go true = h
+    go false = k
 
 -- the greater is at least each of the two
 greater-left : (a b : Option ℤ) (z : ℤ) → Answer a (λ t. z ≤ℤ t) → Answer (greater a b) (λ t. z ≤ℤ t)
 greater-left None b z h = tt
 greater-left (Some x) None z h = tt
-greater-left (Some x) (Some y) z h = go (int_lt x y) refl
-  where
-    go : (c : Bool) → int_lt x y ≡ c → Answer (cond c (Some y) (Some x)) (λ t. z ≤ℤ t)
-    go true e = omega (arith, ints)
-    go false e = h
+greater-left (Some x) (Some y) z h = omega (arith, ints, int_max_is x y)
 
 greater_right : (a b : Option ℤ) (z : ℤ) → Answer b (λ t. z ≤ℤ t) → Answer (greater a b) (λ t. z ≤ℤ t)
 greater_right None b z h = tt
 greater_right (Some x) None z h = tt
-greater_right (Some x) (Some y) z h = go (int_lt x y) refl
-  where
-    go : (c : Bool) → int_lt x y ≡ c → Answer (cond c (Some y) (Some x)) (λ t. z ≤ℤ t)
-    go true e = h
-    go false e = omega (arith, ints)
+greater_right (Some x) (Some y) z h = omega (arith, ints, int_max_is x y)
 
 pub split_lawful : {F : Type 0} {d : Meaning F} → Lawful d → Lawful (split d)
 split_lawful {d = d} u = record {

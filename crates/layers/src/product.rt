@@ -21,13 +21,10 @@ pub struct ReducedProduct<P, Q> {
 fn lesser(left: Option<i64>, right: Option<i64>) -> Option<i64>
     ensures { result ≡ spec.lesser left right }
 {
-    let Some(x) = left else {
-        return right;
-    };
-    let Some(y) = right else {
-        return left;
-    };
-    if y < x { right } else { left }
+    match (left, right) {
+        (Some(x), Some(y)) => Some(x.min(y)),
+        (bound, None) | (None, bound) => bound,
+    }
 }
 
 impl<P: Domain, Q: Domain> ReducedProduct<P, Q> {
@@ -42,24 +39,17 @@ impl<P: Domain, Q: Domain> ReducedProduct<P, Q> {
     fn narrow(&mut self, axis: SignedAxis)
         ensures { (P.Domain.form self.new.left, Q.Domain.form self.new.right) ≡ spec.narrowed P.Domain.sense Q.Domain.sense axis (P.Domain.form self.old.left, Q.Domain.form self.old.right) }
     {
-        let direction = axis.direction();
-        let left = self.left.bound(&direction);
-        let right = self.right.bound(&direction);
-        let Some(least) = lesser(left, right) else {
-            return;
-        };
-        self.left.cut(axis, least);
-        self.right.cut(axis, least);
+        if let Some(least) = self.bound(&axis.direction()) {
+            self.left.cut(axis, least);
+            self.right.cut(axis, least);
+        }
     }
 
     /// Narrows both sides on the signed axes 0 to 7, in order.
     fn reduce(&mut self)
         ensures { (P.Domain.form self.new.left, Q.Domain.form self.new.right) ≡ spec.reduced P.Domain.sense Q.Domain.sense (P.Domain.form self.old.left, Q.Domain.form self.old.right) }
     {
-        for index in 0..8 {
-            let Some(axis) = SignedAxis::new(index) else {
-                return;
-            };
+        for axis in SignedAxis::all() {
             self.narrow(axis);
         }
     }

@@ -21,9 +21,7 @@ pub struct Split<D> {
 fn greater(lower: Option<i64>, upper: Option<i64>) -> Option<i64>
     ensures { result ≡ spec.greater lower upper }
 {
-    let x = lower?;
-    let y = upper?;
-    if x < y { upper } else { lower }
+    Some(lower?.max(upper?))
 }
 
 impl<D: Domain> Split<D> {

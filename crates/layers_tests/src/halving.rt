@@ -1,5 +1,5 @@
 //! The halves of a start.
-use dynamics::start::Start;
+use samples::values::start;
 use std::process::Abort;
 use std::test::Fail;
 
@@ -12,10 +12,7 @@ fn check_halves(
     upper: [i64; 4],
     halved: [i64; 4],
 ) -> Result<(), Fail> {
-    let Ok(start) = Start::new(centres, radii) else {
-        return Err(Fail::new("the start was refused"));
-    };
-    let (a, b) = start.halves();
+    let (a, b) = start(centres, radii)?.halves();
     assert_eq!(rt; a.centres(), lower);
     assert_eq!(rt; b.centres(), upper);
     assert_eq!(rt; a.radii(), halved);

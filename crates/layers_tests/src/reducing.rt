@@ -10,7 +10,7 @@ use dynamics::model::Model;
 use dynamics::start::Start;
 use layers::product::ReducedProduct;
 use samples::intervals::intervals;
-use samples::values::{channel, model, start};
+use samples::values::{IDENTITY, calm, channel, model, start};
 use std::test::Fail;
 use zonotope::zonotope::Zonotope;
 
@@ -72,13 +72,7 @@ fn each_side_is_tighter_somewhere(rt: HostRuntime) -> Result<(), Fail> {
 
 #[test]
 fn an_unbounded_zonotope_leaves_the_box(rt: HostRuntime) -> Result<(), Fail> {
-    let matrix = [
-        [4096, 0, 0, 0],
-        [0, 4096, 0, 0],
-        [0, 0, 4096, 0],
-        [0, 0, 0, 4096],
-    ];
-    let model = model(matrix, channel([1, 0, 0, 0], 0, 0), channel([0; 4], 0, 0))?;
+    let model = model(IDENTITY, channel([1, 0, 0, 0], 0, 0), channel([0; 4], 0, 0))?;
     let start = start([1073741824, 0, 0, 0], [0, 5, 0, 0])?;
     assert_eq!(rt; after(&mut Zonotope::new(), &model, &start, 1), None);
     assert_eq!(rt;
@@ -90,8 +84,7 @@ fn an_unbounded_zonotope_leaves_the_box(rt: HostRuntime) -> Result<(), Fail> {
 
 #[test]
 fn the_zonotope_keeps_the_box_bounded(rt: HostRuntime) -> Result<(), Fail> {
-    let matrix = [[2896, 2896, 0, 0], [-2896, 2896, 0, 0], [0; 4], [0; 4]];
-    let model = model(matrix, channel([0; 4], 0, 0), channel([0; 4], 0, 0))?;
+    let model = calm([[2896, 2896, 0, 0], [-2896, 2896, 0, 0], [0; 4], [0; 4]])?;
     let start = start([0; 4], [536870912, 536870912, 0, 0])?;
     assert_eq!(rt; after(&mut IntervalBox::new(), &model, &start, 3), None);
     assert_eq!(rt;

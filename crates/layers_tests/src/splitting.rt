@@ -4,7 +4,6 @@ ghost use Rattle.std.specs.Prelude.{◌≡◌, [], ◌∷◌, pos, negsuc, IfOk}
 use domains::domain::Domain;
 use domains::enclosure::enclosure;
 use domains::interval_box::IntervalBox;
-use dynamics::channel::Channel;
 use dynamics::direction::Direction;
 use dynamics::model::Model;
 use dynamics::start::Start;
@@ -102,26 +101,13 @@ fn both_sides_unbounded(rt: HostRuntime) -> Result<(), Fail> {
 
 #[test]
 fn one_unbounded_half_is_enough(rt: HostRuntime) -> Result<(), Fail> {
-    let Ok(start) = Start::new([1073741800, 0, 0, 0], [24, 0, 0, 0]) else {
-        return Err(Fail::new("the start was refused"));
-    };
-    let Ok(model) = Model::new(
+    let model = model(
         [[4096, 0, 0, 0], [0; 4], [0; 4], [0; 4]],
-        Channel {
-            gains: [4096, 0, 0, 0],
-            centre: 1,
-            radius: 0,
-        },
-        Channel {
-            gains: [0; 4],
-            centre: 0,
-            radius: 0,
-        },
-    ) else {
-        return Err(Fail::new("the model was refused"));
-    };
+        channel([4096, 0, 0, 0], 1, 0),
+        channel([0; 4], 0, 0),
+    )?;
     let mut set = Split::new(IntervalBox::new(), IntervalBox::new());
-    set.fill(&start);
+    set.fill(&start([1073741800, 0, 0, 0], [24, 0, 0, 0])?);
     assert_eq!(rt;
         enclosure(&set),
         intervals([1073741776, 1073741824, 0, 0, 0, 0, 0, 0])

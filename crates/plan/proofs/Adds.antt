@@ -1,9 +1,7 @@
 -- Bytes put into a buffer.
-use Rattle.std.proofs.Common.{◌≡◌, ℕ, ◌+◌, ◌-◌, ◌≤◌, List, ◌++◌, length, take, drop, Result, sym, refl, ap, ◌∙◌, subst, arith}
+use Rattle.std.proofs.Common.{◌≡◌, ℕ, ◌+◌, ◌-◌, ◌≤◌, List, ◌++◌, length, take, drop, sym, refl, ap, ◌∙◌, subst, arith}
 use Rattle.std.proofs.lemmas.List.{append_assoc, take_at, drop_at, drop-drop, length-append, length-take-le, length-drop}
-use Rattle.plan.specs.declared.writer.Full.{Full}
-use Rattle.plan.specs.declared.writer.Writer.{Writer}
-use Rattle.plan.specs.Report.{Added, Puts}
+use Rattle.plan.specs.Report.{Added}
 
 pub added : (buf : List ℕ) (len : ℕ) (more buf' : List ℕ) → len + length more ≤ length buf → buf' ≡ take len buf ++ (more ++ drop (len + length more) buf) → Added buf len more buf' (len + length more)
 added buf len more buf' h e =
@@ -42,6 +40,3 @@ added-added a k x b l y c m p q =
       room = q.room ∙ p.room;
       text = q.text ∙ ap (λ (t : List ℕ). t ++ y) p.text ∙ append_assoc (take k a) x y;
     }
-
-pub puts_same : (x y : List ℕ) (before after : Writer) (r : Result (Unit {0}) Full) → x ≡ y → Puts x before after r → Puts y before after r
-puts_same x y before after r e p = subst (λ (t : List ℕ). Puts t before after r) e p

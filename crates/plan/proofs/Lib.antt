@@ -1,11 +1,7 @@
-pub mod Digits
 pub mod Breaks
-pub mod Kept
 pub mod Inside
 pub mod Joins
 pub mod Tails
-pub mod Lates
-pub mod Writes
 pub mod Adds
 pub mod Numerals
 pub mod Seams

@@ -8,7 +8,8 @@ use Rattle.plan.specs.declared.record.Kind.{Kind}
 use Rattle.plan.specs.declared.record.Kind.TheVariants as kinds
 use Rattle.plan.specs.declared.record.Expected.{Expected}
 use Rattle.plan.specs.Cuts.{line_of, longer_line, fields_of, longer_field}
-use Rattle.plan.specs.Fields.{is_plain, all_plain, is_label}
+use Rattle.std.specs.Char.{is_ascii_alphanumeric}
+use Rattle.plan.specs.Fields.{all_plain, is_label}
 use Rattle.plan.specs.Grammar.{tabs, tabbed, line, word}
 use Rattle.plan.specs.Numbers.{is_digit}
 use Rattle.plan.specs.Readings.{bind, then, found, placed, line_by}
@@ -31,7 +32,7 @@ not_cut b s h k = grind (arith, nat_tests)
 digit_clean : (b : ℕ) → is_digit b ≡ true → leb 32 b ≡ true
 digit_clean b h = grind (arith, nat_tests)
 
-plain_clean : (b : ℕ) → is_plain b ≡ true → leb 32 b ≡ true
+plain_clean : (b : ℕ) → is_ascii_alphanumeric b ≡ true → leb 32 b ≡ true
 plain_clean b h = grind (arith, nat_tests)
 
 digits_clean : (ds : List ℕ) → all_digits ds ≡ true → clean ds ≡ true
@@ -40,7 +41,7 @@ digits_clean (b ∷ bs) h = let p = and_parts (is_digit b) (all_digits bs) h in 
 
 plains_clean : (bs : List ℕ) → all_plain bs ≡ true → clean bs ≡ true
 plains_clean [] h = refl
-plains_clean (b ∷ bs) h = let p = and_parts (is_plain b) (all_plain bs) h in and_from (leb 32 b) (clean bs) (plain_clean b p.0) (plains_clean bs p.1)
+plains_clean (b ∷ bs) h = let p = and_parts (is_ascii_alphanumeric b) (all_plain bs) h in and_from (leb 32 b) (clean bs) (plain_clean b p.0) (plains_clean bs p.1)
 
 numeral_clean : (f : List ℕ) (z : ℤ) → Numeral f z → clean f ≡ true
 numeral_clean f z s =

@@ -1,10 +1,6 @@
 -- How a text is cut into lines, and a line into fields.
-use Rattle.std.specs.Prelude.{ℕ, cond, List, [], ◌∷◌, length, drop, Some, None, Option, ◌==◌, nat_le}
-
--- what stands before the first `stop`, or all
-abbrev pub until : ℕ → List ℕ → List ℕ
-until stop [] = []
-until stop (b ∷ bs) = cond (b == stop) [] (b ∷ until stop bs)
+use Rattle.std.specs.Prelude.{ℕ, cond, List, [], ◌∷◌, Some, None, Option, ◌==◌}
+use Rattle.std.specs.Borrow.{Bor}
 
 abbrev pub longer_line : ℕ → Option (List ℕ × List ℕ) → Option (List ℕ × List ℕ)
 longer_line b None = None
@@ -24,6 +20,7 @@ abbrev pub fields_of : List ℕ → List (List ℕ)
 fields_of [] = [] ∷ []
 fields_of (b ∷ bs) = cond (b == 9) ([] ∷ fields_of bs) (longer_field b (fields_of bs))
 
--- the fields that are left from a position of the line on: past its end none is
-abbrev pub fields_from : List ℕ → ℕ → List (List ℕ)
-fields_from line pos = cond (nat_le pos (length line)) (fields_of (drop pos line)) []
+-- the fields that are left: past a line's end none is
+abbrev pub fields_left : Option (Bor (List ℕ)) → List (List ℕ)
+fields_left None = []
+fields_left (Some rest) = fields_of rest.now

@@ -1,9 +1,11 @@
 -- What single fields say.
-use Rattle.std.specs.Prelude.{ℕ, ◌^◌, Bool, true, cond, ◌&&◌, ◌||◌, List, [], ◌∷◌, length, ℤ, pos, neg_ℤ, Ok, Err, Result, int_lt, nat_le}
+use Rattle.std.specs.Prelude.{ℕ, ◌^◌, Bool, cond, ◌&&◌, ◌||◌, List, [], ◌∷◌, length, ℤ, pos, neg_ℤ, Ok, Err, Result, int_lt, nat_le}
+use Rattle.std.specs.Char.{is_ascii_alphanumeric}
+use Rattle.std.specs.List.{list_all}
 use Rattle.plan.specs.declared.faults.NumberFault.{NumberFault}
 use Rattle.plan.specs.declared.faults.FieldFault.{FieldFault}
 use Rattle.plan.specs.declared.faults.FieldFault.TheVariants.{Number, Label, Range}
-use Rattle.plan.specs.Numbers.{number_of, is_digit}
+use Rattle.plan.specs.Numbers.{number_of}
 use Rattle.plan.specs.Readings.{bind}
 
 -- a number of a field against the range from `least` to `most`
@@ -30,13 +32,9 @@ abbrev pub entries_of : List ℕ → List ℕ → List ℕ → List ℕ → Resu
 entries_of a b c d =
     bind (within_field 3 (2 ^ 20) a) (λ p. bind (within_field 4 (2 ^ 20) b) (λ q. bind (within_field 5 (2 ^ 20) c) (λ s. bind (within_field 6 (2 ^ 20) d) (λ t. Ok (p ∷ q ∷ s ∷ t ∷ [])))))
 
--- a letter A to Z or a to z, or a digit
-abbrev pub is_plain : ℕ → Bool
-is_plain b = is_digit b || ((nat_le 65 b && nat_le b 90) || (nat_le 97 b && nat_le b 122))
-
+-- letters A to Z or a to z, and digits
 abbrev pub all_plain : List ℕ → Bool
-all_plain [] = true
-all_plain (b ∷ bs) = is_plain b && all_plain bs
+all_plain text = list_all is_ascii_alphanumeric text
 
 -- 1 to 12 letters or digits
 abbrev pub is_label : List ℕ → Bool

@@ -1,7 +1,6 @@
 -- The keep-outs that a plan holds, as plain numbers and bytes.
-use Rattle.std.specs.Prelude.{ℕ, zero, suc, List, [], ◌∷◌, take, drop, ℤ, Some, None, Option}
+use Rattle.std.specs.Prelude.{ℕ, List, take, ℤ}
 use Rattle.plan.specs.declared.keep.Keep.{Keep}
-use Rattle.plan.specs.declared.keep.Span.{Span}
 use Rattle.plan.specs.declared.keeps.Keeps.{Keeps}
 
 -- a keep-out: its label, the entries of its direction, its threshold
@@ -10,18 +9,9 @@ pub record Kept : Type 0 where
   pub entries : List ℤ
   pub threshold : ℤ
 
--- the part of a text that a span is
-abbrev pub spanned : List ℕ → Span → List ℕ
-spanned text s = take s.length (drop s.start text)
+abbrev pub kept : Keep → Kept
+kept k = record { label = k.label.now; entries = k.keep_out.direction.entries; threshold = k.keep_out.threshold }
 
-abbrev pub kept : List ℕ → Keep → Kept
-kept text k = record { label = spanned text k.label; entries = k.keep_out.direction.entries; threshold = k.keep_out.threshold }
-
--- the keep-outs in order, and the one of a number from 0
+-- the keep-outs in order
 abbrev pub kept_list : Keeps → List Keep
-kept_list k = take k.count k.at
-
-abbrev pub keep_at : List Keep → ℕ → Option Keep
-keep_at [] n = None
-keep_at (k ∷ ks) zero = Some k
-keep_at (k ∷ ks) (suc n) = keep_at ks n
+kept_list k = take k.list.len k.list.storage

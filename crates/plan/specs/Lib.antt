@@ -8,6 +8,5 @@ pub mod Keeps
 pub mod Values
 pub mod Plans
 pub mod Grammar
-pub mod Written
 pub mod Report
 pub mod Spelling

@@ -1,5 +1,5 @@
 -- What it is to read from where a text was left: what was read, or the line and its fault.
-use Rattle.std.specs.Prelude.{◌≡◌, ℕ, ◌+◌, List, drop, Some, None, Ok, Err, Option, Result}
+use Rattle.std.specs.Prelude.{◌≡◌, ℕ, ◌+◌, List, Some, None, Ok, Err, Option, Result}
 use Rattle.plan.specs.declared.faults.LineFault.{LineFault}
 use Rattle.plan.specs.declared.faults.LineFault.TheVariants.{NoEnd}
 use Rattle.plan.specs.declared.lines.Lines.{Lines}
@@ -34,11 +34,7 @@ placed n t (Err e) = Err (n, e)
 abbrev pub line_by : {A : Type 0} → (List ℕ → Result A LineFault) → ℕ → List ℕ → Reading A
 line_by f n t = then (cut_line n t) (λ line n t. placed n t (f line))
 
--- what is left of the text
-abbrev pub rest : Lines → List ℕ
-rest l = drop l.pos l.text.now
-
--- a result is that of the reading f, whose value is shown by `show`
+-- a result is that of the reading f, whose value is shown by `show`; a line at fault is not passed
 abbrev pub Reads : {A B : Type 0} → (B → A) → (ℕ → List ℕ → Reading A) → Lines → Lines → Result B LineFault → Type 0
-Reads show f before after (Ok v) = f before.number (rest before) ≡ Ok (show v, after.number, rest after)
-Reads show f before after (Err e) = f before.number (rest before) ≡ Err (after.number, e)
+Reads show f before after (Ok v) = f before.number before.rest.now ≡ Ok (show v, after.number, after.rest.now)
+Reads show f before after (Err e) = f before.number before.rest.now ≡ Err (after.number + 1, e)

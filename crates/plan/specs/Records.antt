@@ -17,10 +17,10 @@ abbrev pub Fielded : Type 0
 Fielded = Kind × List (List ℕ)
 
 abbrev pub fielded : Record → Fielded
-fielded (records.Row index a b c d) = (kinds.Row, index.now ∷ a.now ∷ b.now ∷ c.now ∷ d.now ∷ [])
-fielded (records.Gust index a b c d centre radius) = (kinds.Gust, index.now ∷ a.now ∷ b.now ∷ c.now ∷ d.now ∷ centre.now ∷ radius.now ∷ [])
+fielded (records.Row index e) = (kinds.Row, index.now ∷ e.a.now ∷ e.b.now ∷ e.c.now ∷ e.d.now ∷ [])
+fielded (records.Gust index e centre radius) = (kinds.Gust, index.now ∷ e.a.now ∷ e.b.now ∷ e.c.now ∷ e.d.now ∷ centre.now ∷ radius.now ∷ [])
 fielded (records.Start index centre radius) = (kinds.Start, index.now ∷ centre.now ∷ radius.now ∷ [])
-fielded (records.Keep label a b c d threshold) = (kinds.Keep, label.now ∷ a.now ∷ b.now ∷ c.now ∷ d.now ∷ threshold.now ∷ [])
+fielded (records.Keep label e threshold) = (kinds.Keep, label.now ∷ e.a.now ∷ e.b.now ∷ e.c.now ∷ e.d.now ∷ threshold.now ∷ [])
 fielded (records.Steps count) = (kinds.Steps, count.now ∷ [])
 
 -- the kind that stands where one word is expected

@@ -62,6 +62,11 @@ abbrev pub Puts : List ℕ → Writer → Writer → Result (Unit {0}) Full → 
 Puts more before after (Ok u) = Added before.buf.now before.len more after.buf.now after.len
 Puts more before after (Err e) = KeptOut before.buf.now before.len more after.buf.now after.len
 
+-- the same, into the buffer that was lent
+pub record PutsLine (more : List ℕ) (before after : Writer) (result : Result (Unit {0}) Full) : Type 0 where
+  pub lent : after.buf.ghost_name ≡ before.buf.ghost_name
+  pub line : Puts more before after result
+
 -- the number of the refusal of a line that does not fit
 abbrev pub full_number : ℕ
 full_number = 14

@@ -1,67 +1,77 @@
 //! A line cut into its fields.
-ghost use Rattle.std.specs.Prelude.{◌≡◌, ◌+◌, ◌<◌, ◌≤◌, [], ◌∷◌, length, drop, MatchResult};
-ghost use Rattle.plan.specs.Cuts.{until, fields_from};
+ghost use Rattle.std.specs.Prelude.{◌≡◌, ◌<◌, ◌==◌, [], ◌∷◌, length, MatchResult};
+ghost use Rattle.std.specs.List.{position, before_first};
+ghost use Rattle.plan.specs.Cuts.{fields_of, fields_left};
 ghost use Rattle.plan.specs.declared.faults.LineFault.TheVariants.{Count};
 
+use super::entries::Entries;
 use super::faults::LineFault;
 
-/// The fields of a line, from a position on.
+/// Where the first `stop` stands.
+fn find(text: &[u8], stop: u8) -> Option<usize>
+    ensures { result ≡ position (λ b. b == stop) text.now }
+{
+    text.iter().position(|b| *b == stop)
+}
+
+/// The part of a text before the first `stop`, or all of it.
+pub(crate) fn part(text: &[u8], stop: u8) -> &[u8]
+    ensures { result.now ≡ before_first (λ b. b == stop) text.now }
+{
+    match find(text, stop) {
+        Some(end) => &text[..end],
+        None => text,
+    }
+}
+
+/// The fields of a line that are left; absent past its end.
 #[derive(Drop)]
 pub(crate) struct Fields<'a> {
-    line: &'a [u8],
-    pos: usize,
-    ghost within: { pos ≤ length line.now + 1 },
-}
-
-/// The place of the first `stop` from `from` on, or the length.
-fn span(text: &[u8], from: usize, stop: u8) -> usize
-    requires { from ≤ length text.now }
-    ensures { result ≡ from + length (until stop (drop from text.now)) }
-{
-    for i in from..text.len() {
-        if text[i] == stop {
-            return i;
-        }
-    }
-    text.len()
-}
-
-/// The part of `text` from `from` up to the first `stop`.
-pub(crate) fn part<'a>(text: &'a [u8], from: usize, stop: u8) -> &'a [u8]
-    requires { from ≤ length text.now }
-    ensures { result.now ≡ until stop (drop from text.now) }
-{
-    let end = span(text, from, stop);
-    &text[from..end]
+    rest: Option<&'a [u8]>,
 }
 
 impl<'a> Fields<'a> {
     pub(crate) fn of(line: &'a [u8]) -> Fields<'a>
-        ensures { (result.pos ≡ 0) × (result.line.now ≡ line.now) }
+        ensures { fields_left result.rest ≡ fields_of line.now }
     {
-        Fields { line, pos: 0 }
+        Fields { rest: Some(line) }
     }
 
     /// The next field.
     pub(crate) fn next(&mut self) -> Result<&'a [u8], LineFault>
-        ensures line { self.new.line ≡ self.old.line }
-        ensures cut { MatchResult result (λ s. fields_from self.old.line.now self.old.pos ≡ s.now ∷ fields_from self.new.line.now self.new.pos) (λ e. (e ≡ Count) × (fields_from self.old.line.now self.old.pos ≡ []) × (self.new.pos ≡ self.old.pos)) }
+        ensures { MatchResult result
+            (λ s. fields_left self.old.rest ≡ s.now ∷ fields_left self.new.rest)
+            (λ e. (e ≡ Count) × (fields_left self.old.rest ≡ [])) }
     {
-        if self.pos > self.line.len() {
-            return Err(LineFault::Count);
-        }
-        let field = part(self.line, self.pos, 9);
-        self.pos = self.pos + field.len() + 1;
+        let rest = self.rest.ok_or(LineFault::Count)?;
+        let field = part(rest, b'\t');
+        self.rest = rest.get(field.len() + 1..);
         Ok(field)
+    }
+
+    /// The next four fields.
+    pub(crate) fn entries(&mut self) -> Result<Entries<'a>, LineFault>
+        ensures { MatchResult result
+            (λ s. fields_left self.old.rest ≡ s.a.now ∷ s.b.now ∷ s.c.now ∷ s.d.now ∷ fields_left self.new.rest)
+            (λ e. (e ≡ Count) × (length (fields_left self.old.rest) < 4)) }
+    {
+        Ok(Entries {
+            a: self.next()?,
+            b: self.next()?,
+            c: self.next()?,
+            d: self.next()?,
+        })
     }
 
     /// That no field is left.
     pub(crate) fn done(&self) -> Result<(), LineFault>
-        ensures { MatchResult result (λ _. fields_from self.now.line.now self.now.pos ≡ []) (λ e. (e ≡ Count) × (0 < length (fields_from self.now.line.now self.now.pos))) }
+        ensures { MatchResult result
+            (λ _. fields_left self.now.rest ≡ [])
+            (λ e. (e ≡ Count) × (0 < length (fields_left self.now.rest))) }
     {
-        if self.pos <= self.line.len() {
-            return Err(LineFault::Count);
+        match self.rest {
+            Some(_) => Err(LineFault::Count),
+            None => Ok(()),
         }
-        Ok(())
     }
 }

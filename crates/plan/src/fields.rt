@@ -1,6 +1,6 @@
 //! Single fields: numbers with their ranges, and labels.
 ghost use Rattle.std.specs.Prelude.{◌≡◌, ◌<◌, ◌≤◌, pos};
-ghost use Rattle.plan.specs.Fields.{ranged, index_of, entries_of, is_plain, all_plain, is_label, label_of};
+ghost use Rattle.plan.specs.Fields.{ranged, index_of, all_plain, is_label, label_of};
 ghost use Rattle.plan.specs.Shown.{borrowed};
 
 use super::faults::FieldFault;
@@ -11,7 +11,7 @@ pub(crate) fn ranged(text: &[u8], field: usize, least: i64, most: i64) -> Result
     ensures { result ≡ ranged field least most text.now }
 {
     let n = read_number(text, field)?;
-    if n < least || n > most {
+    if !(least..=most).contains(&n) {
         return Err(FieldFault::Range { field });
     }
     Ok(n)
@@ -22,49 +22,22 @@ pub(crate) fn index(text: &[u8], next: usize) -> Result<i64, FieldFault>
     requires { next ≤ 4 }
     ensures { result ≡ index_of next text.now }
 {
-    let n = read_number(text, 2)?;
     let next = next as i64;
-    if n < next || n > next {
-        return Err(FieldFault::Range { field: 2 });
-    }
-    Ok(n)
-}
-
-/// The four entries in fields 3 to 6.
-pub(crate) fn entries(a: &[u8], b: &[u8], c: &[u8], d: &[u8]) -> Result<[i64; 4], FieldFault>
-    ensures { result ≡ entries_of a.now b.now c.now d.now }
-{
-    let first = ranged(a, 3, -1048576, 1048576)?;
-    let second = ranged(b, 4, -1048576, 1048576)?;
-    let third = ranged(c, 5, -1048576, 1048576)?;
-    let fourth = ranged(d, 6, -1048576, 1048576)?;
-    Ok([first, second, third, fourth])
-}
-
-/// Whether a byte is a letter or a digit.
-fn is_plain(b: u8) -> bool
-    ensures { result ≡ is_plain b }
-{
-    b >= b'0' && b <= b'9' || b >= b'A' && b <= b'Z' || b >= b'a' && b <= b'z'
+    ranged(text, 2, next, next)
 }
 
 /// Whether every byte is a letter or a digit.
 fn all_plain(text: &[u8]) -> bool
     ensures { result ≡ all_plain text.now }
 {
-    for b in text {
-        if !is_plain(*b) {
-            return false;
-        }
-    }
-    true
+    text.iter().all(|b| b.is_ascii_alphanumeric())
 }
 
 /// Whether a text is a label: 1 to 12 letters or digits.
 fn is_label(text: &[u8]) -> bool
     ensures { result ≡ is_label text.now }
 {
-    text.len() >= 1 && text.len() <= 12 && all_plain(text)
+    !text.is_empty() && text.len() <= 12 && all_plain(text)
 }
 
 /// The label in field 2.

@@ -1,18 +1,9 @@
 //! A keep-out of a plan with its label.
-ghost use Rattle.std.specs.Prelude.{◌≡◌};
-
 use dynamics::keep_out::KeepOut;
 
-/// A part of a text, by place: `length` bytes from `start` on.
-#[derive(Clone, Copy, PartialEq, Eq, Debug)]
-pub struct Span {
-    pub start: usize,
-    pub length: usize,
-}
-
-/// A keep-out, and where in the plan's text its label stands.
+/// A keep-out, and its label, which is a part of the plan's text.
 #[derive(Clone, Copy)]
-pub struct Keep {
-    pub label: Span,
+pub struct Keep<'a> {
+    pub label: &'a [u8],
     pub keep_out: KeepOut,
 }

@@ -1,21 +1,64 @@
 //! The keep-outs of a plan, in order: at most sixteen.
-ghost use Rattle.std.specs.Prelude.{◌≡◌, ◌≤◌};
+ghost use Rattle.std.specs.Prelude.{◌≡◌, ◌+◌, ◌<◌, [], ◌∷◌, ◌++◌, replicate, pos, slice_get};
+ghost use Rattle.plan.specs.Keeps.{kept_list};
 
 use super::keep::Keep;
+use dynamics::keep_out::KeepOut;
+use fixed_vec::fixed_vec::FixedVec;
 
-/// The first `count` count.
+/// A list that only the reader fills.
+// A type of its own and not the bare list: a plan's keep-outs are read by number, never changed.
 #[derive(Clone, Copy)]
-pub struct Keeps {
-    pub(crate) at: [Keep; 16],
-    pub(crate) count: usize,
-    ghost limited: { count ≤ 16 },
+pub struct Keeps<'a> {
+    pub(crate) list: FixedVec<Keep<'a>, 16>,
 }
 
-impl Keeps {
+/// A keep-out whose numbers are all 0, with an empty label: what stands where none was put.
+fn blank<'a>() -> Keep<'a>
+    ensures label { result.label.now ≡ [] }
+    ensures numbers { (result.keep_out.direction.entries ≡ replicate 4 (pos 0)) × (result.keep_out.threshold ≡ pos 0) }
+{
+    let Ok(keep_out) = KeepOut::new([0; 4], 0) else {
+        unreachable()
+    };
+    Keep {
+        label: b"",
+        keep_out,
+    }
+}
+
+impl<'a> Keeps<'a> {
+    /// No keep-outs.
+    pub(crate) fn new() -> Keeps<'a>
+        ensures { result.list.len ≡ 0 }
+    {
+        Keeps {
+            list: FixedVec::new(blank()),
+        }
+    }
+
+    /// One more keep-out.
+    pub(crate) fn push(&mut self, keep: Keep<'a>)
+        requires { self.old.list.len < 16 }
+        ensures count { self.new.list.len ≡ self.old.list.len + 1 }
+        ensures items { kept_list self.new ≡ kept_list self.old ++ (keep.entry ∷ []) }
+    {
+        let Ok(()) = self.list.push(keep) else {
+            unreachable()
+        };
+    }
+
     /// How many there are.
     pub fn count(&self) -> usize
-        ensures { result ≡ self.now.count }
+        ensures { result ≡ self.now.list.len }
     {
-        self.count
+        self.list.len()
+    }
+
+    /// The keep-out of a number from 0.
+    pub fn get(&self, n: usize) -> Option<Keep<'a>>
+        ensures { result ≡ slice_get (kept_list self.now) n }
+    {
+        self.list.get(n)
     }
 }

@@ -1,9 +1,10 @@
 //! A line after the starts.
+// Neither an Option nor a Result: the steps are no fault, and they carry a number.
 use super::keep::Keep;
 use super::steps::Steps;
 
 #[derive(Clone, Copy)]
-pub(crate) enum Late {
-    Keep(Keep),
+pub(crate) enum Late<'a> {
+    Keep(Keep<'a>),
     Steps(Steps),
 }

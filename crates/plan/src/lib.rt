@@ -2,10 +2,10 @@
 #![tactic(auto)]
 
 mod cuts;
+mod entries;
 pub mod faults;
 mod fields;
 pub mod keep;
-mod keeping;
 pub mod keeps;
 mod late;
 mod line;
@@ -20,4 +20,3 @@ mod telling;
 pub mod told;
 mod values;
 pub mod writer;
-mod writing;

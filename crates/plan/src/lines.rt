@@ -1,11 +1,10 @@
 //! Where the reader of a text stands.
-ghost use Rattle.std.specs.Prelude.{◌≤◌, length};
+ghost use Rattle.std.specs.Prelude.{◌+◌, ◌^◌, ◌<◌, length};
 
-/// What is read of a text: up to `pos`, and `number` lines were asked for.
-#[derive(Drop)]
+/// What is left of a text after `number` lines.
+#[derive(Clone, Copy)]
 pub(crate) struct Lines<'a> {
-    pub(crate) text: &'a [u8],
-    pub(crate) pos: usize,
+    pub(crate) rest: &'a [u8],
     pub(crate) number: usize,
-    ghost within: { pos ≤ length text.now },
+    ghost countable: { number + length rest.now < 2 ^ 32 },
 }

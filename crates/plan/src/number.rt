@@ -4,34 +4,25 @@ ghost use Rattle.plan.specs.Numbers.{number_of, lead};
 
 use super::faults::NumberFault;
 
-/// The digits from `start` on, as a number.
-fn magnitude(text: &[u8], start: usize, field: usize) -> Result<u64, NumberFault>
-    requires { start ≤ length text.now }
-    ensures value { result ≡ lead field start (drop start text.now) }
+/// The number of digits that stand from `start` on in their field.
+fn magnitude(digits: &[u8], start: usize, field: usize) -> Result<u64, NumberFault>
+    requires { start ≤ 1 }
+    ensures value { result ≡ lead field start digits.now }
     ensures small { IfOk result (λ v. v < 10 ^ 16) }
 {
-    if start >= text.len() {
+    let [first @ b'1'..=b'9', rest @ ..] = digits else {
         return Err(NumberFault {
             field,
             offset: start,
         });
-    }
-    let first = text[start];
-    if first < b'1' || first > b'9' {
-        return Err(NumberFault {
-            field,
-            offset: start,
-        });
-    }
-    let mut value = (first - b'0') as u64;
-    let mut left: u64 = 15;
-    for i in start + 1..text.len() {
-        let b = text[i];
-        if left == 0 || b < b'0' || b > b'9' {
-            return Err(NumberFault { field, offset: i });
+    };
+    let mut value = (*first - b'0') as u64;
+    for (i, b) in rest.iter().enumerate() {
+        if i >= 15 || !b.is_ascii_digit() {
+            let offset = start + 1 + i;
+            return Err(NumberFault { field, offset });
         }
-        value = value * 10 + (b - b'0') as u64;
-        left -= 1;
+        value = value * 10 + (*b - b'0') as u64;
     }
     Ok(value)
 }
@@ -40,20 +31,11 @@ fn magnitude(text: &[u8], start: usize, field: usize) -> Result<u64, NumberFault
 pub fn read_number(text: &[u8], field: usize) -> Result<i64, NumberFault>
     ensures { result ≡ number_of field text.now }
 {
-    if text.len() == 0 {
-        return Err(NumberFault { field, offset: 0 });
+    match text {
+        [] => Err(NumberFault { field, offset: 0 }),
+        [b'0'] => Ok(0),
+        [b'0', ..] => Err(NumberFault { field, offset: 1 }),
+        [b'-', digits @ ..] => Ok(-(magnitude(digits, 1, field)? as i64)),
+        _ => Ok(magnitude(text, 0, field)? as i64),
     }
-    if text[0] == b'0' {
-        return if text.len() == 1 {
-            Ok(0)
-        } else {
-            Err(NumberFault { field, offset: 1 })
-        };
-    }
-    if text[0] == b'-' {
-        let size = magnitude(text, 1, field)?;
-        return Ok(-(size as i64));
-    }
-    let size = magnitude(text, 0, field)?;
-    Ok(size as i64)
 }

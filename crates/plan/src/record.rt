@@ -1,12 +1,12 @@
 //! The records of a plan: lines whose fields are parts of the text.
 ghost use Rattle.std.specs.Prelude.{◌≡◌};
-ghost use Rattle.std.specs.Str.{bytes_eq};
-ghost use Rattle.plan.specs.Cuts.{fields_from};
+ghost use Rattle.plan.specs.Cuts.{fields_left};
 ghost use Rattle.plan.specs.Records.{fielded, only, kind_of, counted, record_of};
 ghost use Rattle.plan.specs.Shown.{shown};
 ghost use Rattle.plan.specs.declared.record.Kind.TheVariants as kinds;
 
 use super::cuts::Fields;
+use super::entries::Entries;
 use super::faults::LineFault;
 
 /// A line that was read, without its name. `index` is the number that counts rows, channels or parts.
@@ -15,18 +15,12 @@ pub enum Record<'a> {
     /// A row of the loop matrix.
     Row {
         index: &'a [u8],
-        a: &'a [u8],
-        b: &'a [u8],
-        c: &'a [u8],
-        d: &'a [u8],
+        entries: Entries<'a>,
     },
     /// A gust channel: its column of B, and the centre and radius of its gusts.
     Gust {
         index: &'a [u8],
-        a: &'a [u8],
-        b: &'a [u8],
-        c: &'a [u8],
-        d: &'a [u8],
+        entries: Entries<'a>,
         centre: &'a [u8],
         radius: &'a [u8],
     },
@@ -39,10 +33,7 @@ pub enum Record<'a> {
     /// A keep-out: its label, its direction and its threshold.
     Keep {
         label: &'a [u8],
-        a: &'a [u8],
-        b: &'a [u8],
-        c: &'a [u8],
-        d: &'a [u8],
+        entries: Entries<'a>,
         threshold: &'a [u8],
     },
     /// How many steps to take.
@@ -61,6 +52,7 @@ pub enum Kind {
 }
 
 /// What may stand on a line. After the starts come keep-outs, up to sixteen, and then the steps.
+// No kind, nor a list of kinds: a seventeenth keep-out is a fault of its own.
 #[derive(Clone, Copy)]
 pub enum Expected {
     Row,
@@ -70,17 +62,11 @@ pub enum Expected {
     OnlySteps,
 }
 
-fn same(a: &[u8], b: &[u8]) -> bool
-    ensures { result ≡ bytes_eq a.now b.now }
-{
-    a == b
-}
-
 /// The kind of record that a first field names, where it is the expected one.
 fn one_kind(name: &[u8], word: &[u8], kind: Kind) -> Result<Kind, LineFault>
     ensures { result ≡ only word.now kind name.now }
 {
-    if same(name, word) {
+    if name == word {
         Ok(kind)
     } else {
         Err(LineFault::Name)
@@ -95,59 +81,39 @@ fn expected_kind(name: &[u8], expected: Expected) -> Result<Kind, LineFault>
         Expected::Row => one_kind(name, b"row", Kind::Row),
         Expected::Gust => one_kind(name, b"gust", Kind::Gust),
         Expected::Start => one_kind(name, b"start", Kind::Start),
-        Expected::KeepOrSteps => {
-            if same(name, b"keep") {
-                Ok(Kind::Keep)
-            } else {
-                one_kind(name, b"steps", Kind::Steps)
-            }
-        }
-        Expected::OnlySteps => {
-            if same(name, b"keep") {
-                Err(LineFault::Crowded)
-            } else {
-                one_kind(name, b"steps", Kind::Steps)
-            }
-        }
+        Expected::KeepOrSteps if name == b"keep".as_slice() => Ok(Kind::Keep),
+        Expected::OnlySteps if name == b"keep".as_slice() => Err(LineFault::Crowded),
+        Expected::KeepOrSteps | Expected::OnlySteps => one_kind(name, b"steps", Kind::Steps),
     }
 }
 
 fn row<'a>(mut fields: Fields<'a>) -> Result<Record<'a>, LineFault>
-    ensures { shown fielded result ≡ counted (fields_from fields.entry.line.now fields.entry.pos) kinds.Row }
+    ensures { shown fielded result ≡ counted (fields_left fields.entry.rest) kinds.Row }
 {
     let index = fields.next()?;
-    let a = fields.next()?;
-    let b = fields.next()?;
-    let c = fields.next()?;
-    let d = fields.next()?;
+    let entries = fields.entries()?;
     fields.done()?;
-    Ok(Record::Row { index, a, b, c, d })
+    Ok(Record::Row { index, entries })
 }
 
 fn gust<'a>(mut fields: Fields<'a>) -> Result<Record<'a>, LineFault>
-    ensures { shown fielded result ≡ counted (fields_from fields.entry.line.now fields.entry.pos) kinds.Gust }
+    ensures { shown fielded result ≡ counted (fields_left fields.entry.rest) kinds.Gust }
 {
     let index = fields.next()?;
-    let a = fields.next()?;
-    let b = fields.next()?;
-    let c = fields.next()?;
-    let d = fields.next()?;
+    let entries = fields.entries()?;
     let centre = fields.next()?;
     let radius = fields.next()?;
     fields.done()?;
     Ok(Record::Gust {
         index,
-        a,
-        b,
-        c,
-        d,
+        entries,
         centre,
         radius,
     })
 }
 
 fn start<'a>(mut fields: Fields<'a>) -> Result<Record<'a>, LineFault>
-    ensures { shown fielded result ≡ counted (fields_from fields.entry.line.now fields.entry.pos) kinds.Start }
+    ensures { shown fielded result ≡ counted (fields_left fields.entry.rest) kinds.Start }
 {
     let index = fields.next()?;
     let centre = fields.next()?;
@@ -161,27 +127,21 @@ fn start<'a>(mut fields: Fields<'a>) -> Result<Record<'a>, LineFault>
 }
 
 fn keep<'a>(mut fields: Fields<'a>) -> Result<Record<'a>, LineFault>
-    ensures { shown fielded result ≡ counted (fields_from fields.entry.line.now fields.entry.pos) kinds.Keep }
+    ensures { shown fielded result ≡ counted (fields_left fields.entry.rest) kinds.Keep }
 {
     let label = fields.next()?;
-    let a = fields.next()?;
-    let b = fields.next()?;
-    let c = fields.next()?;
-    let d = fields.next()?;
+    let entries = fields.entries()?;
     let threshold = fields.next()?;
     fields.done()?;
     Ok(Record::Keep {
         label,
-        a,
-        b,
-        c,
-        d,
+        entries,
         threshold,
     })
 }
 
 fn steps<'a>(mut fields: Fields<'a>) -> Result<Record<'a>, LineFault>
-    ensures { shown fielded result ≡ counted (fields_from fields.entry.line.now fields.entry.pos) kinds.Steps }
+    ensures { shown fielded result ≡ counted (fields_left fields.entry.rest) kinds.Steps }
 {
     let count = fields.next()?;
     fields.done()?;

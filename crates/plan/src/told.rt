@@ -1,4 +1,5 @@
 //! What a refusal tells, as four numbers.
+// Numbers and no enum: the report's format writes numbers.
 
 #[derive(Clone, Copy, PartialEq, Eq, Debug)]
 pub struct Told {

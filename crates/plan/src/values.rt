@@ -1,16 +1,20 @@
 //! What the lines of a plan say.
-ghost use Rattle.std.specs.Prelude.{◌≡◌, ◌^◌, ◌≤◌, MatchResult};
-ghost use Rattle.plan.specs.Fields.{entries_of};
-ghost use Rattle.plan.specs.Values.{pair_of, row_of, gust_of, start_of, keep_out_of, plain_keep, steps_of, plain_steps};
+ghost use Rattle.std.specs.Prelude.{◌≡◌, ◌^◌, ◌≤◌, true};
+ghost use Rattle.plan.specs.Values.{pair_of, row_of, gust_of, start_of, keep_out_of, plain_keep, steps_of, plain_steps, late_of};
+ghost use Rattle.plan.specs.Plans.{plain_late, is_late};
 ghost use Rattle.plan.specs.Shown.{shown};
 
+use super::entries::Entries;
 use super::faults::{FieldFault, LineFault};
-use super::fields::{entries, index, ranged};
+use super::fields::{index, label, ranged};
+use super::keep::Keep;
+use super::late::Late;
 use super::record::{Expected, Record, read_record};
 use super::steps::Steps;
 use dynamics::channel::Channel;
 use dynamics::keep_out::KeepOut;
 
+// Two fields and no struct: only two records have them, at other field numbers.
 /// The centre in a field and the radius in the next.
 fn pair(centre: &[u8], radius: &[u8], field: usize, limit: u64) -> Result<(i64, i64), LineFault>
     requires { (limit ≤ 2 ^ 30) × (field ≤ 8) }
@@ -32,16 +36,13 @@ pub(crate) fn row(line: &[u8], i: usize) -> Result<[i64; 4], LineFault>
 {
     let Record::Row {
         index: number,
-        a,
-        b,
-        c,
-        d,
+        entries,
     } = read_record(line, Expected::Row)?
     else {
         unreachable()
     };
     index(number, i)?;
-    Ok(entries(a, b, c, d)?)
+    Ok(entries.numbers()?)
 }
 
 /// The numbers of channel `j`.
@@ -51,10 +52,7 @@ pub(crate) fn gust(line: &[u8], j: usize) -> Result<Channel, LineFault>
 {
     let Record::Gust {
         index: number,
-        a,
-        b,
-        c,
-        d,
+        entries,
         centre,
         radius,
     } = read_record(line, Expected::Gust)?
@@ -62,7 +60,7 @@ pub(crate) fn gust(line: &[u8], j: usize) -> Result<Channel, LineFault>
         unreachable()
     };
     index(number, j)?;
-    let gains = entries(a, b, c, d)?;
+    let gains = entries.numbers()?;
     let (centre, radius) = pair(centre, radius, 7, 16777216)?;
     Ok(Channel {
         gains,
@@ -89,20 +87,34 @@ pub(crate) fn start(line: &[u8], i: usize) -> Result<(i64, i64), LineFault>
 }
 
 /// The keep-out of four entries and a threshold in field 7.
-pub(crate) fn keep_out(
-    a: &[u8],
-    b: &[u8],
-    c: &[u8],
-    d: &[u8],
-    threshold: &[u8],
-) -> Result<KeepOut, LineFault>
-    ensures { shown plain_keep result ≡ keep_out_of a.now b.now c.now d.now threshold.now }
+pub(crate) fn keep_out(entries: Entries, threshold: &[u8]) -> Result<KeepOut, LineFault>
+    ensures { shown plain_keep result ≡ keep_out_of entries.entry.a.now entries.entry.b.now entries.entry.c.now entries.entry.d.now threshold.now }
 {
-    let entries = entries(a, b, c, d)?;
+    let entries = entries.numbers()?;
     let threshold = ranged(threshold, 7, -4503599627370496, 4503599627370496)?;
-    match KeepOut::new(entries, threshold) {
-        Ok(keep_out) => Ok(keep_out),
-        Err(_) => unreachable(),
+    let Ok(keep_out) = KeepOut::new(entries, threshold) else {
+        unreachable()
+    };
+    Ok(keep_out)
+}
+
+/// A keep-out or the steps.
+pub(crate) fn late<'a>(line: &'a [u8], expected: Expected) -> Result<Late<'a>, LineFault>
+    requires { is_late expected ≡ true }
+    ensures { shown plain_late result ≡ late_of expected line.now }
+{
+    match read_record(line, expected)? {
+        Record::Keep {
+            label: name,
+            entries,
+            threshold,
+        } => {
+            let label = label(name)?;
+            let keep_out = keep_out(entries, threshold)?;
+            Ok(Late::Keep(Keep { label, keep_out }))
+        }
+        Record::Steps { count } => Ok(Late::Steps(steps(count)?)),
+        _ => unreachable(),
     }
 }
 

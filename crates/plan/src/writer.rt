@@ -4,9 +4,8 @@ ghost use Rattle.std.specs.Fmt.{signed_decimal};
 ghost use Rattle.plan.specs.Numbers.{number_of};
 ghost use Rattle.plan.specs.Grammar.{tabs};
 ghost use Rattle.plan.specs.Report as spec;
-ghost use Rattle.plan.specs.Written.{written};
 
-use super::line::Line;
+use super::line::{Line, put_number, put_numbers};
 use super::told::Told;
 
 /// A line does not fit into what is left of the buffer.
@@ -45,47 +44,47 @@ fn has_room(size: usize, len: usize, a: usize, b: usize, c: usize) -> bool
 }
 
 fn step_line(step: usize, bounds: [i64; 8]) -> Line
-    ensures { written result ≡ spec.step_line step bounds }
+    ensures { result.bytes ≡ spec.step_line step bounds }
 {
     let mut line = Line::new();
-    line.bytes(b"step");
-    line.count(step);
-    line.numbers(bounds);
-    line.push(10);
+    line.push_str("step");
+    put_number(&mut line, step);
+    put_numbers(&mut line, bounds);
+    line.push('\n');
     line
 }
 
 fn unbounded_line(step: usize) -> Line
-    ensures { written result ≡ spec.unbounded_line step }
+    ensures { result.bytes ≡ spec.unbounded_line step }
 {
     let mut line = Line::new();
-    line.bytes(b"step");
-    line.count(step);
-    line.bytes(b"\tunbounded\n");
+    line.push_str("step");
+    put_number(&mut line, step);
+    line.push_str("\tunbounded\n");
     line
 }
 
 /// What follows the label of an open keep-out.
 fn open_tail(step: usize) -> Line
-    ensures { written result ≡ tabs (codes "open" ∷ decimal step ∷ []) ++ (10 ∷ []) }
+    ensures { result.bytes ≡ tabs (codes "open" ∷ decimal step ∷ []) ++ (10 ∷ []) }
 {
     let mut line = Line::new();
-    line.bytes(b"\topen");
-    line.count(step);
-    line.push(10);
+    line.push_str("\topen");
+    put_number(&mut line, step);
+    line.push('\n');
     line
 }
 
 fn refused_line(told: Told) -> Line
-    ensures { written result ≡ spec.refused_line told }
+    ensures { result.bytes ≡ spec.refused_line told }
 {
     let mut line = Line::new();
-    line.bytes(b"refused");
-    line.count(told.number);
-    line.count(told.line);
-    line.count(told.field);
-    line.count(told.place);
-    line.push(10);
+    line.push_str("refused");
+    put_number(&mut line, told.number);
+    put_number(&mut line, told.line);
+    put_number(&mut line, told.field);
+    put_number(&mut line, told.place);
+    line.push('\n');
     line
 }
 
@@ -120,8 +119,7 @@ impl<'a> Writer<'a> {
 
     /// Puts a line whole after what stands, or refuses and leaves all as it is.
     pub fn put(&mut self, line: &[u8]) -> Result<(), Full>
-        ensures lent { self.new.buf.ghost_name ≡ self.old.buf.ghost_name }
-        ensures line { spec.Puts line.now self.old self.new result }
+        ensures { spec.PutsLine line.now self.old self.new result }
     {
         if !has_room(self.buf.len(), self.len, line.len(), 0, 0) {
             return Err(Full);
@@ -132,8 +130,7 @@ impl<'a> Writer<'a> {
 
     /// The same for a line in three parts.
     fn put_parts(&mut self, head: &[u8], label: &[u8], tail: &[u8]) -> Result<(), Full>
-        ensures lent { self.new.buf.ghost_name ≡ self.old.buf.ghost_name }
-        ensures line { spec.Puts (head.now ++ (label.now ++ tail.now)) self.old self.new result }
+        ensures { spec.PutsLine (head.now ++ (label.now ++ tail.now)) self.old self.new result }
     {
         if !has_room(
             self.buf.len(),
@@ -153,46 +150,41 @@ impl<'a> Writer<'a> {
     /// The line of a step: the least and the greatest number of each part. A number that is written
     /// so is read back as itself.
     pub fn step(&mut self, step: usize, bounds: [i64; 8]) -> Result<(), Full>
-        ensures lent { self.new.buf.ghost_name ≡ self.old.buf.ghost_name }
-        ensures line { spec.Puts (spec.step_line step bounds) self.old self.new result }
+        ensures put { spec.PutsLine (spec.step_line step bounds) self.old self.new result }
         ensures back { (field : ℕ) (z : ℤ) → unsigned_abs z < 10 ^ 16 → number_of field (signed_decimal z) ≡ Ok z }
     {
         let line = step_line(step, bounds);
-        self.put(line.as_bytes())
+        self.put(line.as_str().as_bytes())
     }
 
     /// The line of a step with a bound absent.
     pub fn unbounded(&mut self, step: usize) -> Result<(), Full>
-        ensures lent { self.new.buf.ghost_name ≡ self.old.buf.ghost_name }
-        ensures line { spec.Puts (spec.unbounded_line step) self.old self.new result }
+        ensures { spec.PutsLine (spec.unbounded_line step) self.old self.new result }
     {
         let line = unbounded_line(step);
-        self.put(line.as_bytes())
+        self.put(line.as_str().as_bytes())
     }
 
     /// The line of a keep-out that no run enters.
     pub fn clear(&mut self, label: &[u8]) -> Result<(), Full>
-        ensures lent { self.new.buf.ghost_name ≡ self.old.buf.ghost_name }
-        ensures line { spec.Puts (spec.clear_line label.now) self.old self.new result }
+        ensures { spec.PutsLine (spec.clear_line label.now) self.old self.new result }
     {
         self.put_parts(b"keep\t", label, b"\tclear\n")
     }
 
     /// The line of a keep-out that is open from a step on.
     pub fn open(&mut self, label: &[u8], step: usize) -> Result<(), Full>
-        ensures lent { self.new.buf.ghost_name ≡ self.old.buf.ghost_name }
-        ensures line { spec.Puts (spec.open_line label.now step) self.old self.new result }
+        ensures { spec.PutsLine (spec.open_line label.now step) self.old self.new result }
     {
         let tail = open_tail(step);
-        self.put_parts(b"keep\t", label, tail.as_bytes())
+        self.put_parts(b"keep\t", label, tail.as_str().as_bytes())
     }
 
     /// The line of a refusal.
     pub fn refused(&mut self, told: Told) -> Result<(), Full>
-        ensures lent { self.new.buf.ghost_name ≡ self.old.buf.ghost_name }
-        ensures line { spec.Puts (spec.refused_line told) self.old self.new result }
+        ensures { spec.PutsLine (spec.refused_line told) self.old self.new result }
     {
         let line = refused_line(told);
-        self.put(line.as_bytes())
+        self.put(line.as_str().as_bytes())
     }
 }

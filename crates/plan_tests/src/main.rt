@@ -3,49 +3,25 @@
 //! line of its steps and some of its numbers, and a line for each of its labels.
 #![tactic(auto)]
 
-ghost use Rattle.std.specs.Prelude.{◌≡◌, ◌≤◌, length, IfOk};
-
 use plan::keeps::Keeps;
 use plan::plan::Plan;
 use plan::reader::read_plan;
 use plan::writer::{Full, Writer};
+use std::alloc::Global;
 use std::io;
 use std::io::Read;
 
-const TABLE: usize = 65536;
-
-/// All of the input, as far as it fits: how many bytes of `buf` it fills.
-fn read_all(input: &mut impl Read, buf: &mut [u8]) -> io::Result<usize>
-    ensures { IfOk result (λ n. n ≤ length buf.old) }
-{
-    let mut len = 0;
-    for _ in 0..u64::MAX {
-        if len >= buf.len() {
-            break;
-        }
-        let got = input.read(&mut buf[len..])?;
-        if got == 0 {
-            break;
-        }
-        len += got;
-    }
-    Ok(len)
-}
+/// More bytes than the table has.
+const TABLE: u64 = 65536;
 
 /// The threshold of the last keep-out, or 0.
 fn last_threshold(keeps: &Keeps) -> i64 {
-    let count = keeps.count();
-    if count == 0 {
-        return 0;
-    }
-    match keeps.get(count - 1) {
-        Some(keep) => keep.keep_out.threshold(),
-        None => 0,
-    }
+    let last = keeps.count().checked_sub(1).and_then(|n| keeps.get(n));
+    last.map_or(0, |keep| keep.keep_out.threshold())
 }
 
 /// Puts what a plan holds.
-fn put_plan(out: &mut Writer, text: &[u8], plan: &Plan) -> Result<(), Full> {
+fn put_plan(out: &mut Writer, plan: &Plan) -> Result<(), Full> {
     let matrix = plan.model.matrix();
     let gains = plan.model.gains();
     let centres = plan.model.centres();
@@ -63,15 +39,13 @@ fn put_plan(out: &mut Writer, text: &[u8], plan: &Plan) -> Result<(), Full> {
         last_threshold(&plan.keeps),
     ];
     out.step(plan.steps.count(), numbers)?;
-    put_labels(out, text, &plan.keeps)
+    put_labels(out, &plan.keeps)
 }
 
 /// Puts a line for each label.
-fn put_labels(out: &mut Writer, text: &[u8], keeps: &Keeps) -> Result<(), Full> {
-    for n in 0..keeps.count() {
-        if let Some(keep) = keeps.get(n) {
-            out.clear(keep.label.part(text))?;
-        }
+fn put_labels(out: &mut Writer, keeps: &Keeps) -> Result<(), Full> {
+    for keep in (0..keeps.count()).filter_map(|n| keeps.get(n)) {
+        out.clear(keep.label)?;
     }
     Ok(())
 }
@@ -79,7 +53,7 @@ fn put_labels(out: &mut Writer, text: &[u8], keeps: &Keeps) -> Result<(), Full> 
 /// Puts what the reader says of a text.
 fn put_answer(out: &mut Writer, text: &[u8]) -> Result<(), Full> {
     match read_plan(text) {
-        Ok(plan) => put_plan(out, text, &plan),
+        Ok(plan) => put_plan(out, &plan),
         Err(refusal) => out.refused(refusal.told()),
     }
 }
@@ -88,56 +62,27 @@ fn put_answer(out: &mut Writer, text: &[u8]) -> Result<(), Full> {
 fn agrees(text: &[u8], answer: &[u8]) -> bool {
     let mut page = [0u8; 1024];
     let mut out = Writer::over(&mut page);
-    match put_answer(&mut out, text) {
-        Ok(()) => out.text() == answer,
-        Err(_) => false,
-    }
-}
-
-/// Where the part that begins at `from` ends.
-fn part_end(table: &[u8], from: usize) -> usize
-    requires { from ≤ length table.now }
-    ensures { (from ≤ result) × (result ≤ length table.now) }
-{
-    for i in from..table.len() {
-        if table[i] == 255 {
-            return i;
-        }
-    }
-    table.len()
+    put_answer(&mut out, text).is_ok() && out.text() == answer
 }
 
 /// Counts the texts that agree and prints the number, from 0, of each that does not.
-fn count_agreeing(rt: &impl Print, table: &[u8]) -> io::Result<usize> {
-    let mut from = 0;
-    let mut agreeing: usize = 0;
-    for n in 0..4096usize {
-        if from >= table.len() {
-            break;
-        }
-        let middle = part_end(table, from);
-        if middle >= table.len() {
-            break;
-        }
-        let end = part_end(table, middle + 1);
-        if agrees(&table[from..middle], &table[middle + 1..end]) {
-            agreeing += 1;
+fn count_agreeing(rt: &impl Print, heap: Global, table: &[u8]) -> io::Result<usize> {
+    let parts: Vec<&[u8]> = table.split(|byte| *byte == 255).collect(heap)?;
+    let mut agreeing = 0usize;
+    for (n, pair) in parts.chunks_exact(2).enumerate() {
+        if agrees(pair[0], pair[1]) {
+            agreeing = agreeing.saturating_add(1);
         } else {
             println!(rt; "differs\t{n}")?;
         }
-        if end >= table.len() {
-            break;
-        }
-        from = end + 1;
     }
     Ok(agreeing)
 }
 
 fn main(rt: HostRuntime) -> anyhow::Result<()> {
-    let mut table = [0u8; TABLE];
-    let mut input = rt.stdin();
-    let len = read_all(&mut input, &mut table)?;
-    let agreeing = count_agreeing(&rt, &table[0..len])?;
+    let mut table = Vec::new(rt.alloc());
+    rt.stdin().take(TABLE).read_to_end(&mut table)?;
+    let agreeing = count_agreeing(&rt, rt.alloc(), &table)?;
     println!(&rt; "texts\t{agreeing}")?;
     Ok(())
 }

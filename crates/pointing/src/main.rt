@@ -2,7 +2,7 @@
 //! box, a line for each step.
 #![tactic(auto)]
 
-ghost use Rattle.std.specs.Prelude.{◌≡◌, ◌≤◌, ◌++◌, length, IfOk, OnOk};
+ghost use Rattle.std.specs.Prelude.{◌≡◌, ◌++◌, OnOk};
 ghost use Rattle.domains.specs.Axes as axes;
 ghost use Rattle.domains.specs.Enclosure as spec;
 ghost use Rattle.plan.specs.Report.{Puts};
@@ -18,33 +18,14 @@ use dynamics::model::Model;
 use layers::product::ReducedProduct;
 use plan::reader::read_plan;
 use plan::writer::{Full, Writer};
-use std::io;
 use std::io::{Read, Write};
 use zonotope::zonotope::Zonotope;
 
 /// One byte more than the longest text of a plan: enough to see that a text is too long.
-const TEXT: usize = 8193;
+const TEXT: u64 = 8193;
 
 /// Room for the longest report: 257 lines of less than 200 bytes.
 const PAGE: usize = 65536;
-
-/// All of the input, as far as it fits: how many bytes of `buf` it fills.
-fn read_all(input: &mut impl Read, buf: &mut [u8]) -> io::Result<usize>
-    ensures { IfOk result (λ n. n ≤ length buf.old) }
-{
-    let mut len = 0;
-    for _ in 0..u64::MAX {
-        if len >= buf.len() {
-            break;
-        }
-        let got = input.read(&mut buf[len..])?;
-        if got == 0 {
-            break;
-        }
-        len += got;
-    }
-    Ok(len)
-}
 
 /// The ends of four intervals, one after the other.
 fn interval_ends(intervals: [Interval; 4]) -> [i64; 8]
@@ -105,15 +86,11 @@ fn put_report(out: &mut Writer, text: &[u8]) -> Result<(), Full>
 }
 
 fn main(rt: HostRuntime) -> anyhow::Result<()> {
-    let mut text = [0u8; TEXT];
+    let mut text = Vec::new(rt.alloc());
+    rt.stdin().take(TEXT).read_to_end(&mut text)?;
     let mut page = [0u8; PAGE];
-    let mut input = rt.stdin();
-    let len = read_all(&mut input, &mut text)?;
     let mut out = Writer::over(&mut page);
-    let Ok(()) = put_report(&mut out, &text[0..len]) else {
-        return Err(anyhow!("the report does not fit"));
-    };
-    let mut output = rt.stdout();
-    output.write_all(out.text())?;
+    put_report(&mut out, &text).map_err(|_| anyhow!("the report does not fit"))?;
+    rt.stdout().write_all(out.text())?;
     Ok(())
 }

@@ -2,8 +2,9 @@
 use Rattle.std.proofs.Common.{◌≡◌, ℕ, zero, suc, ◌+◌, ◌*◌, ◌^◌, ◌<◌, ◌≤◌, Bool, true, false, cond, ltb, List, [], ◌∷◌, ◌++◌, map, length, get_or, nat_abs, sym, refl, ap, ◌∙◌, subst, ap₂, ⊎_elim, add-one, arith}
 use Rattle.std.proofs.lemmas.List.FromFn.{get_or-map-range_with_len}
 use Rattle.std.proofs.lemmas.List.{append_assoc, get_or_append_left, get_or-append-add, length-append}
+use Rattle.std.proofs.lemmas.List.Sums.{fold-append}
 use Rattle.std.proofs.lemmas.Bool.{cond-true, lt-ltb, cases_lt}
-use Rattle.std.specs.List.{range_with_len, flat_map}
+use Rattle.std.specs.List.{range_with_len, flat_map, fold, scan}
 use Rattle.dynamics.specs.declared.keep_out.KeepOut.{KeepOut}
 use Rattle.dynamics.specs.declared.model.Model.{Model}
 use Rattle.dynamics.specs.declared.start.Start.{Start}
@@ -14,11 +15,11 @@ use Rattle.tube.specs.declared.call.Call.TheVariants.{Step, Bound, Finding as As
 use Rattle.tube.specs.declared.call.Reply.{Reply}
 use Rattle.tube.specs.declared.call.Reply.TheVariants.{Watched, Stepped, Bounded, Found, Refused}
 use Rattle.tube.specs.declared.fault.Fault.TheVariants.{WatchLimit, StepLimit, NoKeepOut}
-use Rattle.tube.specs.Calls.{Table, watched, watched_all, watch_replies, empty_table, begun, called, reply, after, replies}
+use Rattle.tube.specs.Calls.{watched, watched_all, watch_replies, begun, called, reply, after, replies}
 use Rattle.tube.specs.Flights.{Flight, stepped}
 use Rattle.tube.specs.Promise.{form_at}
 use Rattle.tube.specs.Rows.{blank}
-use Rattle.tube.specs.Sequences.{ran, told}
+use Rattle.tube.specs.Tables.{Table, empty_table}
 use Rattle.tube.proofs.Keeping.{watching, promise}
 use Rattle.report.specs.Questions.{bound_calls, step_calls, finding_calls, questions}
 use Rattle.report.specs.Replies.{bound_in, reply_at}
@@ -27,20 +28,13 @@ use Rattle.report.proofs.Found.{finding_is}
 
 -- ---- lists of inputs, one after the other
 module _ {S A B : Type 0} (step : S → A → S) (out : S → A → B) where
-  ran_append : (s : S) (xs ys : List A) → ran step s (xs ++ ys) ≡ ran step (ran step s xs) ys
-  unfolding ran
-  ran_append s [] ys = refl
-  ran_append s (x ∷ xs) ys = ran_append (step s x) xs ys
+  scan-append : (s : S) (xs ys : List A) → scan step out s (xs ++ ys) ≡ scan step out s xs ++ scan step out (fold step s xs) ys
+  scan-append s [] ys = refl
+  scan-append s (x ∷ xs) ys = ap (λ (t : List B). out s x ∷ t) (scan-append (step s x) xs ys)
 
-  told-append : (s : S) (xs ys : List A) → told step out s (xs ++ ys) ≡ told step out s xs ++ told step out (ran step s xs) ys
-  unfolding told ran
-  told-append s [] ys = refl
-  told-append s (x ∷ xs) ys = ap (λ (t : List B). out s x ∷ t) (told-append (step s x) xs ys)
-
-  pub told-length : (s : S) (xs : List A) → length (told step out s xs) ≡ length xs
-  unfolding told
-  told-length s [] = refl
-  told-length s (x ∷ xs) = ap suc (told-length (step s x) xs)
+  pub scan-length : (s : S) (xs : List A) → length (scan step out s xs) ≡ length xs
+  scan-length s [] = refl
+  scan-length s (x ∷ xs) = ap suc (scan-length (step s x) xs)
 
 -- ---- what holds of every reply
 abbrev Every : (Reply → Type 0) → List Reply → Type 0
@@ -60,7 +54,6 @@ abbrev Small : Reply → Type 0
 Small r = Answer (bound_in r) (λ b. nat_abs b ≤ 2 ^ 52)
 
 watches_small : (t : Table) (ks : List KeepOut) → Every Small (watch_replies t ks)
-unfolding told
 watches_small t [] = tt
 watches_small t (k ∷ ks) = (go (ltb t.count 16), watches_small (watched t k) ks)
   where
@@ -76,9 +69,9 @@ module _ {F : Type 0} {d : Meaning F} (laws : Lawful d) (m : Model) where
       go : (b : Bool) → Small (cond b Stepped (Refused StepLimit))
       go true = tt
       go false = tt
-  reply_small t h (Ask n) = go (ltb n t.count)
+  reply_small t h (Ask n) = go (ltb n t.table.count)
     where
-      go : (b : Bool) → Small (cond b (Found (get_or t.rows n blank).finding) (Refused NoKeepOut))
+      go : (b : Bool) → Small (cond b (Found (get_or t.table.rows n blank).finding) (Refused NoKeepOut))
       go true = tt
       go false = tt
 
@@ -92,7 +85,6 @@ module _ {F : Type 0} {d : Meaning F} (laws : Lawful d) (m : Model) where
       go false = h
 
   replies_small : (t : Flight F) → d.fits t.form → (cs : List Call) → Every Small (replies d m t cs)
-  unfolding told
   replies_small t h [] = tt
   replies_small t h (c ∷ cs) = (reply_small t h c, replies_small (called d m t c) (called_fits t h c) cs)
 
@@ -117,11 +109,9 @@ module _ {F : Type 0} (d : Meaning F) (m : Model) (s : Start) (f : F) where
     steps : t.steps ≡ k
 
   bounds_told : (t : Flight F) (k : ℕ) → At t k → replies d m t bound_calls ≡ block k
-  unfolding told
   bounds_told t k h = ap (λ (g : F). map (λ a. Bounded (d.bounded (axis a) g)) (range_with_len 0 8)) h.form
 
   bounds_ran : (t : Flight F) → after d m t bound_calls ≡ t
-  unfolding ran
   bounds_ran t = refl
 
   step_at : (t : Flight F) (k : ℕ) → At t k → k < 256 → called d m t Step ≡ stepped d m t
@@ -135,18 +125,16 @@ module _ {F : Type 0} (d : Meaning F) (m : Model) (s : Start) (f : F) where
   stepped_at t k h = record { form = ap (d.advanced m) h.form ∙ ap (form_at d m s f) (sym (add-one k)); steps = ap (λ n. n + 1) h.steps }
 
   steps_told : (n j k : ℕ) (t : Flight F) → At t k → k + n ≤ 256 → replies d m t (flat_map (λ i. Step ∷ bound_calls) (range_with_len j n)) ≡ flat_map later (range_with_len k n)
-  unfolding told
   steps_told zero j k t h l = refl
   steps_told (suc n) j k t h l =
       let t' = called d m t Step in
       let h' : At t' (k + 1) = subst (λ (u : Flight F). At u (k + 1)) (sym (step_at t k h (omega arith))) (stepped_at t k h) in
       let rest = flat_map (λ i. Step ∷ bound_calls) (range_with_len (j + 1) n) in
       ap₂ (λ (r : Reply) (rs : List Reply). r ∷ rs) (step_told t k h (omega arith))
-      (told-append (called d m) (reply d) t' bound_calls rest
+      (scan-append (called d m) (reply d) t' bound_calls rest
       ∙ ap₂ (λ (xs ys : List Reply). xs ++ ys) (bounds_told t' (k + 1) h') (ap (λ (u : Flight F). replies d m u rest) (bounds_ran t') ∙ steps_told n (j + 1) (k + 1) t' h' (omega arith)))
 
   steps_at : (n j k : ℕ) (t : Flight F) → At t k → k + n ≤ 256 → At (after d m t (flat_map (λ i. Step ∷ bound_calls) (range_with_len j n))) (k + n)
-  unfolding ran
   steps_at zero j k t h l = let e : k ≡ k + 0 = omega arith in subst (λ (i : ℕ). At t i) e h
   steps_at (suc n) j k t h l =
       let t' = called d m t Step in
@@ -154,24 +142,22 @@ module _ {F : Type 0} (d : Meaning F) (m : Model) (s : Start) (f : F) where
       let rest = flat_map (λ i. Step ∷ bound_calls) (range_with_len (j + 1) n) in
       let e : (k + 1) + n ≡ k + suc n = omega arith in
       subst (λ (i : ℕ). At (after d m t' (bound_calls ++ rest)) i) e
-      (subst (λ (u : Flight F). At u ((k + 1) + n)) (sym (ran_append (called d m) (reply d) t' bound_calls rest ∙ ap (λ (u : Flight F). after d m u rest) (bounds_ran t'))) (steps_at n (j + 1) (k + 1) t' h' (omega arith)))
+      (subst (λ (u : Flight F). At u ((k + 1) + n)) (sym (fold-append (called d m) t' bound_calls rest ∙ ap (λ (u : Flight F). after d m u rest) (bounds_ran t'))) (steps_at n (j + 1) (k + 1) t' h' (omega arith)))
 
-  count_kept : (t : Flight F) (cs : List Call) → (after d m t cs).count ≡ t.count
-  unfolding ran
+  count_kept : (t : Flight F) (cs : List Call) → (after d m t cs).table.count ≡ t.table.count
   count_kept t [] = refl
   count_kept t (c ∷ cs) = count_kept (called d m t c) cs ∙ one c
     where
-      go : (b : Bool) → (cond b (stepped d m t) t).count ≡ t.count
+      go : (b : Bool) → (cond b (stepped d m t) t).table.count ≡ t.table.count
       go true = refl
       go false = refl
 
-      one : (c : Call) → (called d m t c).count ≡ t.count
+      one : (c : Call) → (called d m t c).table.count ≡ t.table.count
       one Step = go (ltb t.steps 256)
       one (Bound l) = refl
       one (Ask n) = refl
 
   findings_told : (t : Flight F) (i n : ℕ) → replies d m t (map Ask (range_with_len i n)) ≡ map (λ k. reply d t (Ask k)) (range_with_len i n)
-  unfolding told
   findings_told t i zero = refl
   findings_told t i (suc n) = ap (λ (rs : List Reply). reply d t (Ask i) ∷ rs) (findings_told t (i + 1) n)
 
@@ -195,10 +181,10 @@ module _ {F : Type 0} (d : Meaning F) (m : Model) (s : Start) (f : F) where
 
     pub questions_told : replies d m first (questions n (length ks)) ≡ block 0 ++ (flat_map later (range_with_len 0 n) ++ findings)
     questions_told =
-        told-append (called d m) (reply d) first bound_calls (step_calls n ++ finding_calls (length ks))
+        scan-append (called d m) (reply d) first bound_calls (step_calls n ++ finding_calls (length ks))
         ∙ ap₂ (λ (xs ys : List Reply). xs ++ ys) (bounds_told first 0 first_at)
         (ap (λ (u : Flight F). replies d m u (step_calls n ++ finding_calls (length ks))) (bounds_ran first)
-        ∙ told-append (called d m) (reply d) first (step_calls n) (finding_calls (length ks))
+        ∙ scan-append (called d m) (reply d) first (step_calls n) (finding_calls (length ks))
         ∙ ap₂ (λ (xs ys : List Reply). xs ++ ys) (steps_told n 0 0 first first_at (omega arith)) (findings_told last 0 (length ks)))
 
   -- ---- the bounds by their places
@@ -243,7 +229,7 @@ module _ {F : Type 0} {d : Meaning F} (laws : Lawful d) (m : Model) (s : Start) 
   finding_told i k h e =
       let t = last d m s f ks n brief in
       let b = λ (j : ℕ). d.bounded k.direction (form_at d m s f j) in
-      let c : t.count ≡ length ks = count_kept d m s f (first d m s f ks n brief) (step_calls n) ∙ all_watched in
-      let l : i < t.count = omega arith in
+      let c : t.table.count ≡ length ks = count_kept d m s f (first d m s f ks n brief) (step_calls n) ∙ all_watched in
+      let l : i < t.table.count = omega arith in
       let p = (promise laws m s f fits ks (step_calls n)).judged i k l e in
-      cond-true _ _ _ (lt-ltb i t.count l) ∙ ap Found (finding_is b k.threshold t.steps _ p ∙ ap (verdict b k.threshold) (last_at d m s f ks n brief).steps)
+      cond-true _ _ _ (lt-ltb i t.table.count l) ∙ ap Found (finding_is b k.threshold t.steps _ p ∙ ap (verdict b k.threshold) (last_at d m s f ks n brief).steps)

@@ -1,5 +1,6 @@
 -- A page on which a writer put a report from its start on.
 use Rattle.std.proofs.Common.{◌≡◌, ℕ, ◌≤◌, List, [], ◌∷◌, ◌++◌, length, take, drop, Ok, Err, Result, refl, ap, ◌∙◌, subst, arith}
+use Rattle.std.proofs.lemmas.List.Folds.{length-flat_map-take}
 use Rattle.plan.specs.declared.writer.Full.{Full}
 use Rattle.plan.specs.declared.writer.Writer.{Writer}
 use Rattle.plan.specs.declared.faults.Refusal.{Refusal}
@@ -13,7 +14,6 @@ use Rattle.report.specs.Report.{bytes, report_lines}
 use Rattle.report.specs.Reports.{Reports}
 use Rattle.report.specs.Tasks.{task}
 use Rattle.report.proofs.Putting.{none-put, one-put, not_put}
-use Rattle.report.proofs.Sizes.{some_bytes}
 
 holds : (lines : List (List ℕ)) (page page' : List ℕ) (n : ℕ) → Added page 0 (bytes lines) page' n → (n ≡ length (bytes lines)) × Holds lines page page'
 holds lines page page' n a =
@@ -52,7 +52,7 @@ on_page text out out' r z p q s h =
 roomy : (W : Type 0) (lines : List (List ℕ)) (page page' : List ℕ) (r : Result ℕ Fault) → length (bytes lines) ≤ page_size → page_size ≤ length page → Printed W lines page page' r → Roomy r
 roomy W lines page page' (Ok n) h k p = tt
 roomy W lines page page' (Err fault.Memory) h k p = tt
-roomy W lines page page' (Err (fault.Line e)) h k p = omega (arith, p.2, some_bytes lines p.0 p.1)
+roomy W lines page page' (Err (fault.Line e)) h k p = omega (arith, p.2, length-flat_map-take (λ (l : List ℕ). l) lines p.0 [] p.1)
 
 pub page_roomy : (text page page' : List ℕ) (r : Result ℕ Fault) → Answers text (plan_of text) → Reports text (λ W lines. length (bytes lines) ≤ page_size) → Reports text (λ W lines. Printed W lines page page' r) → page_size ≤ length page → Roomy r
 page_roomy text page page' r law f p k = go (plan_of text) refl law

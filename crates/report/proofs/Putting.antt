@@ -1,6 +1,7 @@
 -- Lines put one after the other.
 use Rattle.std.proofs.Common.{◌≡◌, ℕ, suc, ◌+◌, ◌<◌, ◌≤◌, List, [], ◌∷◌, ◌++◌, length, get_or, take, Ok, Err, Result, sym, refl, ap, ◌∙◌, subst, arith}
-use Rattle.std.proofs.lemmas.List.{append-nil, append_assoc, take_more, take_all, take-append-drop, take-append-le, flat_map_more, length-append, get_or_append_left, get_or-append-add}
+use Rattle.std.proofs.lemmas.Grind.{flat_map-append}
+use Rattle.std.proofs.lemmas.List.{append-nil, take_more, take_all, take-append-drop, take-append-le, flat_map_more, length-append, get_or_append_left, get_or-append-add}
 use Rattle.plan.specs.declared.writer.Full.{Full}
 use Rattle.plan.specs.declared.writer.Writer.{Writer}
 use Rattle.plan.specs.Report.{Added, KeptOut}
@@ -36,10 +37,6 @@ pub all_put : (lines : List (List ℕ)) (a : List ℕ) (k i : ℕ) (b : List ℕ
 all_put lines a k i b l h p = subst (λ (ls : List (List ℕ)). Added a k (bytes ls) b l) (take_all i lines h) p
 
 -- ---- some lines, and then others
-pub bytes-append : (xs ys : List (List ℕ)) → bytes (xs ++ ys) ≡ bytes xs ++ bytes ys
-bytes-append [] ys = refl
-bytes-append (x ∷ xs) ys = ap (λ (t : List ℕ). x ++ t) (bytes-append xs ys) ∙ sym (append_assoc x (bytes xs) (bytes ys))
-
 take_past : (xs ys : List (List ℕ)) (k : ℕ) → take (length xs + k) (xs ++ ys) ≡ xs ++ take k ys
 take_past [] ys k = let e : 0 + k ≡ k = omega arith in ap (λ (i : ℕ). take i ys) e
 take_past (x ∷ xs) ys k =
@@ -57,13 +54,13 @@ module _ (xs ys : List (List ℕ)) (a : List ℕ) (k : ℕ) (b : List ℕ) (l : 
 
   module _ (p : Added a k (bytes xs) b l) (c : List ℕ) (m : ℕ) where
     pub both_put : Added b l (bytes ys) c m → Added a k (bytes (xs ++ ys)) c m
-    both_put q = subst (λ (t : List ℕ). Added a k t c m) (sym (bytes-append xs ys)) (added-added a k (bytes xs) b l (bytes ys) c m p q)
+    both_put q = subst (λ (t : List ℕ). Added a k t c m) (sym (flat_map-append (λ (l : List ℕ). l) xs ys)) (added-added a k (bytes xs) b l (bytes ys) c m p q)
 
     pub stopped_later : Stopped ys b l c m → Stopped (xs ++ ys) a k c m
     stopped_later q = record {
       put = length xs + q.put;
       some = omega (arith, q.some, length-append xs ys);
-      whole = subst (λ (t : List ℕ). Added a k t c m) (sym (bytes-append xs (take q.put ys)) ∙ ap bytes (sym (take_past xs ys q.put))) (added-added a k (bytes xs) b l (bytes (take q.put ys)) c m p q.whole);
+      whole = subst (λ (t : List ℕ). Added a k t c m) (sym (flat_map-append (λ (l : List ℕ). l) xs (take q.put ys)) ∙ ap bytes (sym (take_past xs ys q.put))) (added-added a k (bytes xs) b l (bytes (take q.put ys)) c m p q.whole);
       full = subst (λ (t : List ℕ). length a < m + length t) (sym (get_or-append-add xs ys q.put [])) (omega (arith, q.full, p.room));
     }
 

@@ -1,6 +1,7 @@
 -- How long the lines of a report can be.
-use Rattle.std.proofs.Common.{◌≡◌, ℕ, zero, suc, ◌+◌, ◌*◌, ◌^◌, ◌<◌, ◌≤◌, true, ◌&&◌, leb, List, [], ◌∷◌, map, length, get_or, take, ℤ, pos, negsuc, neg_ℤ, nat_abs, Some, None, codes, decimal, Option, refl, ap, arith}
+use Rattle.std.proofs.Common.{◌≡◌, ℕ, zero, suc, ◌+◌, ◌*◌, ◌^◌, ◌<◌, ◌≤◌, true, ◌&&◌, leb, List, [], ◌∷◌, map, length, ℤ, pos, negsuc, neg_ℤ, nat_abs, Some, None, codes, decimal, Option, refl, ap, arith}
 use borrow.Author.Differences.{ints}
+use Rattle.std.proofs.lemmas.Grind.{flat_map-append}
 use Rattle.std.proofs.lemmas.Fmt.{length-decimal-le}
 use Rattle.std.proofs.lemmas.List.{length-append, length-map}
 use Rattle.std.proofs.lemmas.Bool.{and_parts, leb-true}
@@ -24,7 +25,6 @@ use Rattle.report.specs.Pages.{page_size}
 use Rattle.report.specs.Report.{bound_at, numbers_at, finding_of, step_lines, keep_lines, lines_over, bytes}
 use Rattle.report.specs.Tasks.{Labelled, Task, labelled, all_labelled, task}
 use Rattle.report.proofs.Found.{verdict-judged}
-use Rattle.report.proofs.Putting.{bytes-append}
 
 -- ---- lines of fields
 abbrev Short : ℕ → List (List ℕ) → Type 0
@@ -142,16 +142,10 @@ module _ {F : Type 0} {d : Meaning F} (laws : Lawful d) (f : F) (fits : d.fits f
   report_short =
       omega (
         arith,
-        ap length (bytes-append (step_lines d f t) (keep_lines d f t)),
+        ap length (flat_map-append (λ (l : List ℕ). l) (step_lines d f t) (keep_lines d f t)),
         length-append (bytes (step_lines d f t)) (bytes (keep_lines d f t)),
         steps_bytes (λ k. step_text k (numbers_at d f t k)) 0 (s.steps + 1) (λ i l. step_line_short i (numbers_at d f t i) (omega (arith, h.brief)) (numbers_fine i)),
         keeps_bytes (finding_of d f t) finding_early s.keeps h.keeps,
         h.brief,
         h.few,
       )
-
--- the lines before one, and that one, are no longer than all
-pub some_bytes : (lines : List (List ℕ)) (k : ℕ) → k < length lines → length (bytes (take k lines)) + length (get_or lines k []) ≤ length (bytes lines)
-some_bytes [] k h = absurd (omega arith)
-some_bytes (l ∷ lines) zero h = omega (arith, length-append l (bytes lines))
-some_bytes (l ∷ lines) (suc k) h = omega (arith, length-append l (bytes lines), length-append l (bytes (take k lines)), some_bytes lines k (omega arith))

@@ -3,10 +3,9 @@ use Rattle.std.proofs.Common.{◌≡◌, ℕ, zero, suc, ◌+◌, ◌*◌, ◌^�
 use Rattle.std.proofs.lemmas.List.FromFn.{length-map-range_with_len, get_or-map-range_with_len}
 use Rattle.std.proofs.lemmas.List.{get_or-drop, get_or_past}
 use Rattle.std.proofs.lemmas.Bool.{cases_lt}
-use Rattle.std.specs.List.{range_with_len}
+use Rattle.std.specs.List.{range_with_len, slice_get}
 use Rattle.domains.specs.Meaning.{Answer}
 use Rattle.plan.specs.declared.keep.Keep.{Keep}
-use Rattle.plan.specs.Keeps.{keep_at, spanned}
 use Rattle.tube.specs.declared.call.Reply.{Reply}
 use Rattle.tube.specs.declared.call.Reply.TheVariants.{Watched}
 use Rattle.tube.specs.declared.finding.Finding.{Finding}
@@ -26,27 +25,27 @@ small_bounds replies at h bounds e a =
     (λ (k : 8 ≤ a). subst Small (sym (get_or_past (map (bounds_at replies at) (range_with_len 0 8)) a None (omega arith))) tt)
     (cases_lt a 8))
 
-pub steps_length : (replies : List Reply) (at n : ℕ) → length (told_steps replies at n) ≡ n + 1
-steps_length replies at n = length-map-range_with_len (told_step replies at) 0 (n + 1)
+pub steps_length : (answers : List Reply) (n : ℕ) → length (told_steps answers n) ≡ n + 1
+steps_length answers n = length-map-range_with_len (told_step answers) 0 (n + 1)
 
-pub step_told : (replies : List Reply) (at n k : ℕ) → k < n + 1 → (bounds : List (Option ℤ)) → bounds ≡ map (bounds_at replies (at + 9 * k)) (range_with_len 0 8)
-    → step_text k (ends (λ a. get_or bounds a None)) ≡ get_or (told_steps replies at n) k []
-step_told replies at n k h bounds e =
-    ap (λ (bs : List (Option ℤ)). step_text k (ends (λ a. get_or bs a None))) e ∙ sym (get_or-map-range_with_len (told_step replies at) 0 (n + 1) k k [] h (omega arith))
+pub step_told : (answers : List Reply) (n k : ℕ) → k < n + 1 → (bounds : List (Option ℤ)) → bounds ≡ map (bounds_at answers (9 * k)) (range_with_len 0 8)
+    → step_text k (ends (λ a. get_or bounds a None)) ≡ get_or (told_steps answers n) k []
+step_told answers n k h bounds e =
+    ap (λ (bs : List (Option ℤ)). step_text k (ends (λ a. get_or bs a None))) e ∙ sym (get_or-map-range_with_len (told_step answers) 0 (n + 1) k k [] h (omega arith))
 
 -- ---- keep-outs
-pub keeps_length : (text : List ℕ) (ks : List Keep) (found : List Reply) → length (told_keeps text ks found) ≡ length ks
-keeps_length text [] found = refl
-keeps_length text (k ∷ ks) found = ap suc (keeps_length text ks (drop 1 found))
+pub keeps_length : (ks : List Keep) (found : List Reply) → length (told_keeps ks found) ≡ length ks
+keeps_length [] found = refl
+keeps_length (k ∷ ks) found = ap suc (keeps_length ks (drop 1 found))
 
-pub keep_told : (text : List ℕ) (ks : List Keep) (found : List Reply) (n : ℕ) (k : Keep) (label : List ℕ) (f : Finding)
-    → Some k ≡ keep_at ks n → label ≡ spanned text k.label → f ≡ finding_in (reply_at found n) → keep_text label f ≡ get_or (told_keeps text ks found) n []
-keep_told text [] found n k label f e p q = let z : ◌≡◌ {A = ℕ} 0 1 = cc in absurd (omega arith)
-keep_told text (j ∷ ks) found zero k label f e p q =
+pub keep_told : (ks : List Keep) (found : List Reply) (n : ℕ) (k : Keep) (label : List ℕ) (f : Finding)
+    → Some k ≡ slice_get ks n → label ≡ k.label.now → f ≡ finding_in (reply_at found n) → keep_text label f ≡ get_or (told_keeps ks found) n []
+keep_told [] found n k label f e p q = let z : ◌≡◌ {A = ℕ} 0 1 = cc in absurd (omega arith)
+keep_told (j ∷ ks) found zero k label f e p q =
     let s : k ≡ j = cc in
-    ap₂ keep_text (p ∙ ap (λ (i : Keep). spanned text i.label) s) q
-keep_told text (j ∷ ks) found (suc n) k label f e p q =
-    keep_told text ks (drop 1 found) n k label f e p (q ∙ ap finding_in (sym (get_or-drop 1 found n Watched ∙ ap (λ (i : ℕ). get_or found i Watched) one)))
+    ap₂ keep_text (p ∙ ap (λ (i : Keep). i.label.now) s) q
+keep_told (j ∷ ks) found (suc n) k label f e p q =
+    keep_told ks (drop 1 found) n k label f e p (q ∙ ap finding_in (sym (get_or-drop 1 found n Watched ∙ ap (λ (i : ℕ). get_or found i Watched) one)))
   where
     one : 1 + n ≡ suc n
     one = omega arith

@@ -1,11 +1,8 @@
 -- Lists that a loop makes, one turn on.
 use Rattle.std.proofs.Common.{◌≡◌, ℕ, ◌+◌, List, [], ◌∷◌, ◌++◌, map, sym, ap, ◌∙◌, arith}
 use Rattle.std.proofs.lemmas.List.FromFn.{map-range_with_len_more}
-use Rattle.std.proofs.lemmas.List.{append_assoc, append-nil, flat_map_more, map-id}
+use Rattle.std.proofs.lemmas.List.{append_assoc, flat_map_more, map-id}
 use Rattle.std.specs.List.{range_with_len, flat_map}
-
-pub nothing_yet : {A : Type 0} (items : List A) → items ≡ items ++ []
-nothing_yet items = sym (append-nil items)
 
 -- one element more
 pub push_turn : {A : Type 0} (f : ℕ → A) (old items items' : List A) (i : ℕ) (x : A) → items ≡ old ++ map f (range_with_len 0 i) → items' ≡ items ++ x ∷ [] → x ≡ f i → items' ≡ old ++ map f (range_with_len 0 (i + 1))

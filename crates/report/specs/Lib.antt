@@ -2,6 +2,7 @@ pub mod Lines
 pub mod Verdicts
 pub mod Tasks
 pub mod Report
+pub mod Faults
 pub mod Questions
 pub mod Replies
 pub mod Pages

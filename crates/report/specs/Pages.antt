@@ -7,6 +7,14 @@ use Rattle.report.specs.declared.fault.Fault.{Fault}
 use Rattle.report.specs.declared.fault.Fault.TheVariants as fault
 use Rattle.report.specs.Report.{bytes}
 
+-- what a writer has put lies in its buffer
+abbrev pub IsWithin : Writer → Type 0
+IsWithin w = w.len ≤ length w.buf.now
+
+-- the writer has the buffer that it had
+abbrev pub SameBuffer : Writer → Writer → Type 0
+SameBuffer old new = new.buf.ghost_name ≡ old.buf.ghost_name
+
 -- lines were put after the first `len` bytes of a buffer, as far as they fit: all of them, or those
 -- before the first that does not fit
 pub record Stopped (lines : List (List ℕ)) (buf : List ℕ) (len : ℕ) (buf' : List ℕ) (len' : ℕ) : Type 0 where

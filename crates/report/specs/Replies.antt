@@ -7,10 +7,11 @@ use Rattle.tube.specs.declared.finding.Finding.{Finding}
 use Rattle.tube.specs.declared.finding.Finding.TheVariants.{Open}
 use Rattle.dynamics.specs.declared.keep_out.KeepOut.{KeepOut}
 use Rattle.domains.specs.Meaning.{Meaning, Answer}
-use Rattle.tube.specs.Calls.{watch_replies, empty_table, begun, replies}
+use Rattle.tube.specs.Calls.{watch_replies, begun, replies}
+use Rattle.tube.specs.Tables.{empty_table}
 use Rattle.plan.specs.declared.keep.Keep.{Keep}
 use Rattle.plan.specs.declared.plan.Plan.{Plan}
-use Rattle.plan.specs.Keeps.{spanned, kept_list}
+use Rattle.plan.specs.Keeps.{kept_list}
 use Rattle.report.specs.Lines.{ends, step_text, keep_text}
 use Rattle.report.specs.Questions.{questions}
 
@@ -35,29 +36,28 @@ reply_at replies i = slice_index_or replies i Watched
 
 -- the eight bounds that begin at a place
 abbrev pub bounds_at : List Reply → ℕ → ℕ → Option ℤ
-bounds_at replies at a = bound_in (reply_at replies (at + a))
+bounds_at answers at a = bound_in (reply_at answers (at + a))
 
 -- every bound is within ±2^52
 abbrev pub Limited : List Reply → Type 0
 Limited replies = (i : ℕ) → Answer (bound_in (reply_at replies i)) (λ b. unsigned_abs b ≤ 2 ^ 52)
 
--- the line of step k, where the bounds of step 0 begin at a place: eight bounds for each step, and
--- one reply to the step between them
-abbrev pub told_step : List Reply → ℕ → ℕ → List ℕ
-told_step replies at k = step_text k (ends (bounds_at replies (at + 9 * k)))
+-- the line of step k, by the answers to the questions of a report: eight bounds for each step, and one
+-- reply to the step between them
+abbrev pub told_step : List Reply → ℕ → List ℕ
+told_step answers k = step_text k (ends (bounds_at answers (9 * k)))
 
-abbrev pub told_steps : List Reply → ℕ → ℕ → List (List ℕ)
-told_steps replies at n = map (told_step replies at) (range_with_len 0 (n + 1))
+abbrev pub told_steps : List Reply → ℕ → List (List ℕ)
+told_steps answers n = map (told_step answers) (range_with_len 0 (n + 1))
 
 -- the lines of keep-outs, by the replies to what is found of each
-abbrev pub told_keeps : List ℕ → List Keep → List Reply → List (List ℕ)
-told_keeps text [] found = []
-told_keeps text (k ∷ ks) found = keep_text (spanned text k.label) (finding_in (reply_at found 0)) ∷ told_keeps text ks (drop 1 found)
+abbrev pub told_keeps : List Keep → List Reply → List (List ℕ)
+told_keeps [] found = []
+told_keeps (k ∷ ks) found = keep_text k.label.now (finding_in (reply_at found 0)) ∷ told_keeps ks (drop 1 found)
 
--- all lines of a report, where the bounds of step 0 begin at a place and the findings follow the bounds
--- of the last step
-abbrev pub told_lines : List ℕ → List Keep → List Reply → ℕ → ℕ → List (List ℕ)
-told_lines text keeps replies at n = told_steps replies at n ++ told_keeps text keeps (drop (at + 9 * n + 8) replies)
+-- all lines of a report, where the findings follow the bounds of the last step
+abbrev pub told_lines : List Keep → List Reply → ℕ → List (List ℕ)
+told_lines keeps answers n = told_steps answers n ++ told_keeps keeps (drop (9 * n + 8) answers)
 
 -- ---- the replies of a tube over a domain, of form f before its fill, to the watches and questions of a plan
 abbrev pub keep_outs : Plan → List KeepOut

@@ -3,6 +3,7 @@ ghost use Rattle.std.specs.Prelude.{◌≡◌, ◌+◌, ◌≤◌, map, length};
 ghost use Rattle.std.specs.List.{range_with_len};
 ghost use Rattle.report.specs.Replies as spec;
 
+use std::array::from_fn;
 use tube::call::Reply;
 use tube::finding::Finding;
 
@@ -31,9 +32,5 @@ pub(crate) fn bounds_at(replies: &[Reply], at: usize) -> [Option<i64>; 8]
     requires { at + 8 ≤ length replies.now }
     ensures { result ≡ map (spec.bounds_at replies.now at) (range_with_len 0 8) }
 {
-    let mut bounds = [None; 8];
-    for axis in 0..8 {
-        bounds[axis] = bound_in(replies[at + axis]);
-    }
-    bounds
+    from_fn(|axis| bound_in(replies[at + axis]))
 }

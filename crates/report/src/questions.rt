@@ -13,10 +13,7 @@ use tube::call::Call;
 fn ask_bounds(calls: &mut Vec<Call>) -> Result<(), AllocError>
     ensures { OnOk result (calls.new.items ≡ calls.old.items ++ spec.bound_calls) }
 {
-    for index in 0..8 {
-        let Some(axis) = SignedAxis::new(index) else {
-            unreachable()
-        };
+    for axis in SignedAxis::all() {
         calls.push(Call::Bound(axis.direction()))?;
     }
     Ok(())
@@ -34,6 +31,7 @@ fn ask_steps(calls: &mut Vec<Call>, steps: usize) -> Result<(), AllocError>
 }
 
 /// Asks for the finding of each of so many keep-outs.
+#[tactic(auto, using(crate::proofs::Turns::push_turn))]
 fn ask_findings(calls: &mut Vec<Call>, count: usize) -> Result<(), AllocError>
     ensures { OnOk result (calls.new.items ≡ calls.old.items ++ spec.finding_calls count) }
 {

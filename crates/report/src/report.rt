@@ -1,10 +1,10 @@
 //! A plan's report, from the bytes of its text to the bytes on a page.
-ghost use Rattle.std.specs.Prelude.{◌≡◌, ◌+◌, ◌*◌, ◌≤◌, length, IfOk};
+ghost use Rattle.std.specs.Prelude.{◌≡◌, ◌+◌, ◌*◌, ◌≤◌, length, IfOk, vec_len};
 ghost use Rattle.plan.specs.Keeps.{kept_list};
 ghost use Rattle.plan.specs.Report.{Puts, refused_line};
 ghost use Rattle.plan.specs.Plans.{Sheet, plan_of};
 ghost use Rattle.plan.specs.Spelling.{Answers, Spells};
-ghost use Rattle.report.specs.Pages.{PutsAll, PutsTask, Printed, Roomy, page_size};
+ghost use Rattle.report.specs.Pages.{IsWithin, SameBuffer, PutsAll, PutsTask, Printed, Roomy, page_size};
 ghost use Rattle.report.specs.Replies.{Limited, told_lines, keep_outs, plan_replies};
 ghost use Rattle.report.specs.Report.{lines_over, bytes};
 ghost use Rattle.report.specs.Reports.{Reports};
@@ -35,6 +35,7 @@ pub const PAGE: usize = 40000;
 struct Replies {
     list: Vec<Reply>,
     at: usize,
+    ghost within: { at ≤ vec_len list },
 }
 
 /// Follows a plan over a domain: its keep-outs are watched, and the questions of a report asked.
@@ -60,45 +61,38 @@ fn follow_plan<D: Domain + Drop>(
     Ok(Replies { list: replies, at })
 }
 
-/// Puts the lines of a plan's report, by the replies of its tube.
-fn put_lines(
-    out: &mut Writer,
-    text: &[u8],
-    plan: &Plan,
-    replies: &[Reply],
-    at: usize,
-) -> Result<(), Full>
-    requires room { out.old.len ≤ length out.old.buf.now }
-    requires whole { at + 9 * plan.now.steps.count + 8 + length (kept_list plan.now.keeps) ≡ length replies.now }
-    requires limited { Limited replies.now }
-    ensures lent { out.new.buf.ghost_name ≡ out.old.buf.ghost_name }
-    ensures lines { PutsAll (told_lines text.now (kept_list plan.now.keeps) replies.now at plan.now.steps.count) out.old out.new result }
+/// Puts the lines of a plan's report, by the answers of its tube to the questions.
+fn put_lines(out: &mut Writer, plan: &Plan, answers: &[Reply]) -> Result<(), Full>
+    requires room { IsWithin out.old }
+    requires whole { 9 * plan.now.steps.count + 8 + length (kept_list plan.now.keeps) ≡ length answers.now }
+    requires limited { Limited answers.now }
+    ensures lent { SameBuffer out.old out.new }
+    ensures lines { PutsAll (told_lines (kept_list plan.now.keeps) answers.now plan.now.steps.count) out.old out.new result }
 {
     let steps = plan.steps.count();
-    put_steps(out, replies, at, steps)?;
-    put_keeps(out, text, &plan.keeps, &replies[at + 9 * steps + 8..])
+    put_steps(out, answers, steps)?;
+    put_keeps(out, &plan.keeps, &answers[9 * steps + 8..])
 }
 
 /// Puts the report of a plan over a domain.
 fn put_plan<D: Domain + Drop>(
     heap: Global,
     out: &mut Writer,
-    text: &[u8],
     plan: &Plan,
     domain: D,
 ) -> Result<(), Fault>
-    requires room { out.old.len ≤ length out.old.buf.now }
-    ensures lent { out.new.buf.ghost_name ≡ out.old.buf.ghost_name }
-    ensures lines { PutsTask (Unit {0}) (lines_over D.sense (D.form domain) (plan_task text.now plan.now)) out.old out.new result }
+    requires room { IsWithin out.old }
+    ensures lent { SameBuffer out.old out.new }
+    ensures lines { PutsTask (Unit {0}) (lines_over D.sense (D.form domain) (plan_task plan.now)) out.old out.new result }
 {
     let replies = follow_plan(heap, plan, domain)?;
-    put_lines(out, text, plan, replies.list.as_slice(), replies.at)?;
+    put_lines(out, plan, &replies.list[replies.at..])?;
     Ok(())
 }
 
 /// Puts the one line of a refusal. It has at most 92 bytes.
 fn put_refusal(out: &mut Writer, told: Told) -> Result<(), Full>
-    ensures lent { out.new.buf.ghost_name ≡ out.old.buf.ghost_name }
+    ensures lent { SameBuffer out.old out.new }
     ensures line { Puts (refused_line told) out.old out.new result }
     ensures short { length (refused_line told) ≤ 92 }
 {
@@ -107,8 +101,8 @@ fn put_refusal(out: &mut Writer, told: Told) -> Result<(), Full>
 
 /// Puts the report of a text: that of its plan, or why it is refused.
 fn put_report(heap: Global, out: &mut Writer, text: &[u8]) -> Result<(), Fault>
-    requires room { out.old.len ≤ length out.old.buf.now }
-    ensures lent { out.new.buf.ghost_name ≡ out.old.buf.ghost_name }
+    requires room { IsWithin out.old }
+    ensures lent { SameBuffer out.old out.new }
     ensures lines { Reports text.now (λ W lines. PutsTask W lines out.old out.new result) }
     ensures short { Reports text.now (λ W lines. length (bytes lines) ≤ page_size) }
     ensures law { Answers text.now (plan_of text.now) }
@@ -116,7 +110,7 @@ fn put_report(heap: Global, out: &mut Writer, text: &[u8]) -> Result<(), Fault>
     match read_plan(text) {
         Ok(plan) => {
             let domain = ReducedProduct::new(Zonotope::new(), IntervalBox::new());
-            put_plan(heap, out, text, &plan, domain)
+            put_plan(heap, out, &plan, domain)
         }
         Err(refusal) => {
             put_refusal(out, refusal.told())?;

@@ -1,13 +1,23 @@
 //! Checked values from plain numbers.
-ghost use Rattle.std.specs.Prelude.{◌≡◌, [], ◌∷◌, pos, IfOk};
+ghost use Rattle.std.specs.Prelude.{◌≡◌, ◌≤◌, [], ◌∷◌, pos, IfOk, MatchResult};
 ghost use Rattle.dynamics.specs.Refusals.{by_parts};
 
+use domains::axis::SignedAxis;
 use dynamics::channel::Channel;
 use dynamics::direction::Direction;
 use dynamics::keep_out::KeepOut;
 use dynamics::model::Model;
+use dynamics::refusal::Refusal;
 use dynamics::start::Start;
 use std::test::Fail;
+
+/// The loop that keeps every state where it is.
+pub const IDENTITY: [[i64; 4]; 4] = [
+    [4096, 0, 0, 0],
+    [0, 4096, 0, 0],
+    [0, 0, 4096, 0],
+    [0, 0, 0, 4096],
+];
 
 pub fn channel(gains: [i64; 4], centre: i64, radius: i64) -> Channel
     ensures { (result.gains ≡ gains) × (result.centre ≡ centre) × (result.radius ≡ radius) }
@@ -22,10 +32,7 @@ pub fn channel(gains: [i64; 4], centre: i64, radius: i64) -> Channel
 pub fn model(matrix: [[i64; 4]; 4], first: Channel, second: Channel) -> Result<Model, Fail>
     ensures { IfOk result (λ m. (m.matrix ≡ matrix) × (m.gains ≡ by_parts first.gains second.gains) × (m.centres ≡ first.centre ∷ second.centre ∷ []) × (m.radii ≡ first.radius ∷ second.radius ∷ [])) }
 {
-    match Model::new(matrix, first, second) {
-        Ok(model) => Ok(model),
-        Err(_) => Err(Fail::new("the model was refused")),
-    }
+    Ok(Model::new(matrix, first, second)?)
 }
 
 /// A model without gusts.
@@ -38,35 +45,32 @@ pub fn calm(matrix: [[i64; 4]; 4]) -> Result<Model, Fail>
 pub fn start(centres: [i64; 4], radii: [i64; 4]) -> Result<Start, Fail>
     ensures { IfOk result (λ s. (s.centres ≡ centres) × (s.radii ≡ radii)) }
 {
-    match Start::new(centres, radii) {
-        Ok(start) => Ok(start),
-        Err(_) => Err(Fail::new("the start was refused")),
-    }
+    Ok(Start::new(centres, radii)?)
 }
 
 pub fn direction(entries: [i64; 4]) -> Result<Direction, Fail>
     ensures { IfOk result (λ d. d.entries ≡ entries) }
 {
-    match Direction::new(entries) {
-        Ok(direction) => Ok(direction),
-        Err(_) => Err(Fail::new("the direction was refused")),
-    }
+    Ok(Direction::new(entries)?)
 }
 
 pub fn keep_out(entries: [i64; 4], threshold: i64) -> Result<KeepOut, Fail>
     ensures { IfOk result (λ k. (k.direction.entries ≡ entries) × (k.threshold ≡ threshold)) }
 {
-    match KeepOut::new(entries, threshold) {
-        Ok(keep_out) => Ok(keep_out),
-        Err(_) => Err(Fail::new("the keep-out was refused")),
-    }
+    Ok(KeepOut::new(entries, threshold)?)
+}
+
+pub fn axis(index: usize) -> Result<SignedAxis, Fail>
+    ensures { MatchResult result (λ a. a.index ≡ index) (λ _. 8 ≤ index) }
+{
+    SignedAxis::new(index).ok_or_else(|| Fail::new("no axis has that number"))
 }
 
 /// The loop and gusts of the worked plan.
-pub fn worked_model() -> Result<Model, Fail>
+pub fn worked_model() -> Result<Model, Refusal>
     ensures { IfOk result (λ m. (m.centres ≡ pos 0 ∷ pos 0 ∷ []) × (m.radii ≡ pos 4 ∷ pos 0 ∷ [])) }
 {
-    model(
+    Model::new(
         [[4096, 1024, 0, 0], [0, 2048, 0, 0], [0; 4], [0; 4]],
         channel([0, 4096, 0, 0], 0, 4),
         channel([0; 4], 0, 0),
@@ -74,8 +78,8 @@ pub fn worked_model() -> Result<Model, Fail>
 }
 
 /// Where the worked plan's runs begin.
-pub fn worked_start() -> Result<Start, Fail>
+pub fn worked_start() -> Result<Start, Refusal>
     ensures { IfOk result (λ s. (s.centres ≡ pos 100 ∷ pos 0 ∷ pos 0 ∷ pos 0 ∷ []) × (s.radii ≡ pos 8 ∷ pos 8 ∷ pos 0 ∷ pos 0 ∷ [])) }
 {
-    start([100, 0, 0, 0], [8, 8, 0, 0])
+    Start::new([100, 0, 0, 0], [8, 8, 0, 0])
 }

@@ -1,6 +1,4 @@
-pub mod Counting
 pub mod Directions
-pub mod Draws
 pub mod Images
 pub mod Refused
 pub mod Sampled

@@ -1,10 +1,11 @@
 -- What is told of a refusal, from what made it.
-use Rattle.std.proofs.Common.{◌≡◌, ℕ, Some, None, Ok, Err, Option, Result, sym, subst, MatchResult}
+use Rattle.std.proofs.Common.{◌≡◌, ℕ, Some, None, Ok, Err, Option, Result, sym, MatchResult}
+use Rattle.std.specs.Option.{option_map}
+use Rattle.std.specs.Result.{result_err}
 use Rattle.dynamics.specs.declared.refusal.Refusal.{Refusal}
-use Rattle.dynamics.specs.Refusals.{number, place}
-use Rattle.trials.specs.Numbers.{ToldAs}
+use Rattle.trials.specs.Numbers.{told}
 
-pub told_as : {A : Type 0} (r : Result A Refusal) (o : Option (ℕ × ℕ)) (n p : ℕ) (made : A → Type 0) → ((a : A) → made a → o ≡ None)
-    → MatchResult r made (λ e. o ≡ Some (number e, place e)) → MatchResult r (λ a. (n ≡ 0) × (p ≡ 0)) (λ e. (n ≡ number e) × (p ≡ place e)) → ToldAs o n p
-told_as (Ok a) o n p made none h k = subst (λ (q : Option (ℕ × ℕ)). ToldAs q n p) (sym (none a h)) k
-told_as (Err e) o n p made none h k = subst (λ (q : Option (ℕ × ℕ)). ToldAs q n p) (sym h) k
+pub told_as : {A : Type 0} (r : Result A Refusal) (o : Option (ℕ × ℕ)) (made : A → Type 0) → ((a : A) → made a → o ≡ None)
+    → MatchResult r made (λ e. o ≡ Some (told e)) → option_map told (result_err r) ≡ o
+told_as (Ok a) o made none h = sym (none a h)
+told_as (Err e) o made none h = sym h

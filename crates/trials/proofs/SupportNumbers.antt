@@ -1,47 +1,51 @@
 -- The exact support number by parts, as code computes it.
-use Rattle.std.proofs.Common.{◌≡◌, ℕ, zero, suc, ◌+◌, ◌-◌, ◌*◌, ◌^◌, ◌<◌, List, ℤ, pos, negsuc, ◌+ℤ◌, ◌*ℤ◌, nat_abs, ◌≤ℤ◌, sym, refl, ap, ◌∙◌, ap₂, arith}
+use Rattle.std.proofs.Common.{◌≡◌, ℕ, zero, suc, ◌-◌, ◌*◌, ◌^◌, ◌<◌, List, ℤ, pos, negsuc, ◌+ℤ◌, ◌*ℤ◌, nat_abs, ◌≤ℤ◌, refl, ap, ◌∙◌, ap₂, arith}
 use borrow.Author.Differences.{ints}
-use Rattle.arith.specs.Sums.{listed, part, entry}
+use Rattle.arith.specs.Sums.{sum, total, listed, part, entry}
 use Rattle.arith.specs.Products.{dot, row_times, spanned}
-use Rattle.arith.proofs.Bridge.{dot-listed, dot-left, sum_two, total_two}
 use Rattle.arith.proofs.Sums.{sum_ext, sum-pos, total_ext, listed_at}
 use Rattle.dynamics.specs.declared.model.Model.{Model}
 use Rattle.dynamics.specs.declared.start.Start.{Start}
 use Rattle.dynamics.specs.Values.{loop, push, middle, radius, centre, width}
 use Rattle.dynamics.specs.Support.{through, across, gusts, exact}
 
--- a product with a column that was read into a list
-pub carried_is : (m : Model) (l : ℕ → ℤ) (j : ℕ) {a : List (List ℤ)} {xs : List ℤ} {z : ℤ} → a ≡ m.matrix → xs ≡ listed 4 (λ i. entry a i j) → z ≡ dot l (part xs) → z ≡ through m l j
-carried_is m l j e q r = r ∙ ap (λ (xs : List ℤ). dot l (part xs)) (q ∙ ap (λ (a : List (List ℤ)). listed 4 (λ i. entry a i j)) e) ∙ dot-listed l (λ i. loop m i j)
-
-pub pushed_is : (m : Model) (l : ℕ → ℤ) (j : ℕ) {b : List (List ℤ)} {xs : List ℤ} {z : ℤ} → b ≡ m.gains → xs ≡ listed 4 (λ i. entry b i j) → z ≡ dot l (part xs) → z ≡ across m l j
-pushed_is m l j e q r = r ∙ ap (λ (xs : List ℤ). dot l (part xs)) (q ∙ ap (λ (a : List (List ℤ)). listed 4 (λ i. entry a i j)) e) ∙ dot-listed l (λ i. push m i j)
-
 -- a number of at least 0 is its size
 nonneg : (z : ℤ) → pos 0 ≤ℤ z → z ≡ pos (nat_abs z)
 nonneg (pos n) h = refl
 nonneg (negsuc n) h = absurd (omega (arith, ints))
 
--- what one channel adds
-pub channel_is : {z g g' p p' w w' : ℤ} → g' ≡ g → p' ≡ p → w' ≡ w → pos 0 ≤ℤ w → z ≡ g' *ℤ p' +ℤ pos (nat_abs g') *ℤ w' → z ≡ g *ℤ p +ℤ pos (nat_abs g * nat_abs w)
-channel_is {z} {g} {g'} {p} {p'} {w} {w'} a b d h e =
-    e ∙ ap₂ ◌+ℤ◌ (ap₂ ◌*ℤ◌ a b) (ap₂ (λ (u v : ℤ). pos (nat_abs u) *ℤ v) a (d ∙ nonneg w h))
+-- sizes of a list that was written from the index, times numbers
+pub sum-listed : (n : ℕ) (f x : ℕ → ℤ) → sum n (λ i. part (listed n f) i *ℤ x i) ≡ sum n (λ i. f i *ℤ x i)
+sum-listed n f x = sum_ext n (λ i. part (listed n f) i *ℤ x i) (λ i. f i *ℤ x i) (λ i h. ap (λ (z : ℤ). z *ℤ x i) (listed_at n f (pos 0) i h))
 
-pub gusts_are : (m : Model) (l : ℕ → ℤ) {a b : ℤ} → a ≡ across m l 0 *ℤ middle m 0 +ℤ pos (nat_abs (across m l 0) * radius m 0)
-    → b ≡ across m l 1 *ℤ middle m 1 +ℤ pos (nat_abs (across m l 1) * radius m 1) → a +ℤ b ≡ gusts m l
-gusts_are m l {a} {b} p q =
-    ap₂ ◌+ℤ◌ p q ∙ regroup (across m l 0 *ℤ middle m 0) (across m l 1 *ℤ middle m 1) (nat_abs (across m l 0) * radius m 0) (nat_abs (across m l 1) * radius m 1)
-    ∙ ap₂ (λ (u : ℤ) (n : ℕ). u +ℤ pos n) (sym (sum_two (λ j. across m l j *ℤ middle m j))) (sym (total_two (λ j. nat_abs (across m l j) * radius m j)))
-  where
-    regroup : (u v : ℤ) (x y : ℕ) → (u +ℤ pos x) +ℤ (v +ℤ pos y) ≡ (u +ℤ v) +ℤ pos (x + y)
-    regroup u v x y = omega (arith, ints)
+-- sizes times radii
+spanning : (n : ℕ) (l w : ℕ → ℤ) → ((i : ℕ) → i < n → pos 0 ≤ℤ w i) → sum n (λ i. pos (nat_abs (l i)) *ℤ w i) ≡ pos (total n (λ i. nat_abs (l i) * nat_abs (w i)))
+spanning n l w h =
+    sum_ext n (λ i. pos (nat_abs (l i)) *ℤ w i) (λ i. pos (nat_abs (l i) * nat_abs (w i))) (λ i k. ap (λ (z : ℤ). pos (nat_abs (l i)) *ℤ z) (nonneg (w i) (h i k)))
+    ∙ sum-pos n (λ i. nat_abs (l i) * nat_abs (w i))
 
--- the sizes of a direction's entries times the radii
-pub sizes_are : (s : Start) (l : ℕ → ℤ) {z : ℤ} {a w : List ℤ} → a ≡ listed 4 (λ i. pos (nat_abs (l i))) → w ≡ s.radii → z ≡ dot (part a) (part w) → z ≡ pos (spanned l (width s))
-sizes_are s l p q e =
-    e ∙ ap₂ (λ (a w : List ℤ). dot (part a) (part w)) p q ∙ dot-left (λ i. pos (nat_abs (l i))) (part s.radii)
-    ∙ sum_ext 4 (λ i. pos (nat_abs (l i)) *ℤ part s.radii i) (λ i. pos (nat_abs (l i) * width s i)) (λ i h. ap (λ (z : ℤ). pos (nat_abs (l i)) *ℤ z) (nonneg (part s.radii i) (s.limited.0 i h)))
-    ∙ sum-pos 4 (λ i. nat_abs (l i) * width s i)
+-- how far numbers within radii of centres reach
+abbrev pub reached : ℕ → (ℕ → ℤ) → (ℕ → ℤ) → (ℕ → ℤ) → ℤ
+reached n l p w = sum n (λ i. l i *ℤ p i) +ℤ sum n (λ i. pos (nat_abs (l i)) *ℤ w i)
+
+pub start_is : (s : Start) (l : ℕ → ℤ) {p w : List ℤ} → p ≡ s.centres → w ≡ s.radii → reached 4 l (part p) (part w) ≡ dot l (centre s) +ℤ pos (spanned l (width s))
+start_is s l p w =
+    ap₂ (λ (p w : List ℤ). reached 4 l (part p) (part w)) p w
+    ∙ ap (λ (z : ℤ). dot l (centre s) +ℤ z) (spanning 4 l (part s.radii) s.limited.0)
+
+pub gusts_are : (m : Model) (l : ℕ → ℤ) {b : List (List ℤ)} {xs p w : List ℤ} → xs ≡ listed 2 (row_times l (entry b)) → b ≡ m.gains → p ≡ m.centres → w ≡ m.radii
+    → reached 2 (part xs) (part p) (part w) ≡ gusts m l
+gusts_are m l {b} {xs} {p} {w} e q u v =
+    let g = across m l in
+    ap (λ (xs : List ℤ). reached 2 (part xs) (part p) (part w)) (e ∙ ap (λ (a : List (List ℤ)). listed 2 (row_times l (entry a))) q)
+    ∙ ap₂ (λ (p w : List ℤ). reached 2 (part (listed 2 g)) (part p) (part w)) u v
+    ∙ ap₂ ◌+ℤ◌ (sum-listed 2 g (middle m))
+    (sum_ext 2 (λ j. pos (nat_abs (part (listed 2 g) j)) *ℤ part m.radii j) (λ j. pos (nat_abs (g j)) *ℤ part m.radii j) (λ j h. ap (λ (z : ℤ). pos (nat_abs z) *ℤ part m.radii j) (listed_at 2 g (pos 0) j h))
+    ∙ spanning 2 g (part m.radii) m.calm.0)
+
+-- a direction carried back, from the matrix that was read
+pub carried_is : (m : Model) (l : ℕ → ℤ) {a : List (List ℤ)} {xs : List ℤ} → xs ≡ listed 4 (row_times l (entry a)) → a ≡ m.matrix → xs ≡ listed 4 (through m l)
+carried_is m l e a = e ∙ ap (λ (a : List (List ℤ)). listed 4 (row_times l (entry a))) a
 
 -- directions that agree in their four entries
 across_ext : (a : ℕ → ℕ → ℤ) (l k : ℕ → ℤ) → ((i : ℕ) → i < 4 → l i ≡ k i) → (j : ℕ) → row_times l a j ≡ row_times k a j

@@ -1,7 +1,6 @@
 -- A run with one state more.
-use Rattle.std.proofs.Common.{◌≡◌, ℕ, zero, suc, ◌+◌, ◌^◌, ◌<◌, ◌≤◌, Bool, true, leb, ◌⊎◌, List, [], ◌∷◌, ◌++◌, map, length, ℤ, nat_abs, sym, refl, ap, ◌∙◌, subst, inl, inr, ⊎_elim, arith, length-append, leb-true}
+use Rattle.std.proofs.Common.{◌≡◌, ℕ, zero, suc, ◌+◌, ◌^◌, ◌<◌, ◌≤◌, Bool, true, false, leb, ◌&&◌, ◌⊎◌, List, [], ◌∷◌, ◌++◌, map, length, ℤ, nat_abs, sym, refl, ap, ◌∙◌, subst, inl, inr, ⊎_elim, arith, length-append, leb-true}
 use Rattle.arith.specs.Sums.{part}
-use Rattle.arith.proofs.Sums.{every_at}
 use Rattle.trials.specs.Walks.{near}
 use Rattle.dynamics.specs.declared.model.Model.{Model}
 use Rattle.dynamics.specs.declared.start.Start.{Start}
@@ -80,4 +79,16 @@ more m s xs zs x y w p e = record {
         }
 
 pub near_parts : (x : List ℤ) {b : Bool} → b ≡ true → b ≡ near x → (i : ℕ) → i < 4 → nat_abs (part x i) ≤ 2 ^ 39
-near_parts x e q i h = leb-true (nat_abs (part x i)) (2 ^ 39) (every_at 4 (λ i. leb (nat_abs (part x i)) (2 ^ 39)) (sym q ∙ e) i h)
+near_parts x e q i h = parts x (sym q ∙ e) i
+  where
+    small : (z : ℤ) (xs : List ℤ) → (leb (nat_abs z) (2 ^ 39) && near xs) ≡ true → (nat_abs z ≤ 2 ^ 39) × (near xs ≡ true)
+    small z xs h = go (leb (nat_abs z) (2 ^ 39)) refl h
+      where
+        go : (b : Bool) → leb (nat_abs z) (2 ^ 39) ≡ b → (b && near xs) ≡ true → (nat_abs z ≤ 2 ^ 39) × (near xs ≡ true)
+        go true e h = (leb-true (nat_abs z) (2 ^ 39) e, h)
+        go false e h = cc
+
+    parts : (x : List ℤ) → near x ≡ true → (i : ℕ) → nat_abs (part x i) ≤ 2 ^ 39
+    parts [] e i = omega arith
+    parts (z ∷ xs) e zero = (small z xs e).0
+    parts (z ∷ xs) e (suc i) = parts xs (small z xs e).1 i

@@ -1,40 +1,35 @@
 -- What tells the kinds of plans apart.
-use Rattle.std.specs.Prelude.{ℕ, Bool, true, false}
+use Rattle.std.specs.Prelude.{ℕ, Bool, true, false, List, codes}
 use Rattle.trials.specs.declared.kind.Kind.{Kind}
 use Rattle.trials.specs.declared.kind.Kind.TheVariants.{Contracting, Neutral, Growing, Whole, FarStarts, StrongGusts, Steep, Extreme}
 
+-- the name that is printed
+abbrev pub name : Kind → List ℕ
+name Contracting = codes "contracting"
+name Neutral = codes "neutral"
+name Growing = codes "growing"
+name Whole = codes "whole rows"
+name FarStarts = codes "far starts"
+name StrongGusts = codes "strong gusts"
+name Steep = codes "steep"
+name Extreme = codes "extreme"
+
 -- every row is whole
 abbrev pub whole : Kind → Bool
-whole Contracting = false
-whole Neutral = false
-whole Growing = false
 whole Whole = true
-whole FarStarts = false
-whole StrongGusts = false
-whole Steep = false
-whole Extreme = false
+whole _ = false
 
 -- all sets stay bounded
 abbrev pub tame : Kind → Bool
-tame Contracting = true
-tame Neutral = true
-tame Growing = true
-tame Whole = true
-tame FarStarts = true
-tame StrongGusts = true
 tame Steep = false
 tame Extreme = false
+tame _ = true
 
 -- the size of the leading entry of each row, 0 where none leads
 abbrev pub lead_size : Kind → ℕ
-lead_size Contracting = 0
 lead_size Neutral = 4096
 lead_size Growing = 5596
-lead_size Whole = 0
-lead_size FarStarts = 0
-lead_size StrongGusts = 0
-lead_size Steep = 0
-lead_size Extreme = 0
+lead_size _ = 0
 
 -- the greatest size of the other entries, before they are made whole
 abbrev pub other_size : Kind → ℕ
@@ -49,33 +44,23 @@ other_size Extreme = 1048576
 
 -- the greatest size of the gains, before they are made whole
 abbrev pub gain_size : Kind → ℕ
-gain_size Contracting = 4096
-gain_size Neutral = 4096
-gain_size Growing = 4096
 gain_size Whole = 1
-gain_size FarStarts = 4096
-gain_size StrongGusts = 4096
 gain_size Steep = 1048576
 gain_size Extreme = 1048576
+gain_size _ = 4096
 
 -- the greatest size of a gust
 abbrev pub gust_size : Kind → ℕ
-gust_size Contracting = 200
-gust_size Neutral = 200
-gust_size Growing = 200
 gust_size Whole = 4
-gust_size FarStarts = 200
 gust_size StrongGusts = 16777216
 gust_size Steep = 50
 gust_size Extreme = 16777216
+gust_size _ = 200
 
 -- the greatest size of a part at the start
 abbrev pub start_size : Kind → ℕ
-start_size Contracting = 1100
-start_size Neutral = 1100
-start_size Growing = 1100
 start_size Whole = 20
 start_size FarStarts = 1073741824
-start_size StrongGusts = 1100
 start_size Steep = 100
 start_size Extreme = 1073741824
+start_size _ = 1100

@@ -1,5 +1,5 @@
 -- Simulated runs that the loop permits.
-use Rattle.std.specs.Prelude.{List, [], ◌∷◌, map, vec_items}
+use Rattle.std.specs.Prelude.{List, All, map, vec_items}
 use Rattle.arith.specs.Sums.{part}
 use Rattle.dynamics.specs.declared.model.Model.{Model}
 use Rattle.dynamics.specs.declared.start.Start.{Start}
@@ -8,5 +8,4 @@ use Rattle.trials.specs.declared.walk.Walk.{Walk}
 
 -- every one of them is a permitted run of the model from the start
 abbrev pub AllPermitted : Model → Start → List Walk → Type 0
-AllPermitted m s [] = Unit {0}
-AllPermitted m s (w ∷ ws) = Run m s (map part (vec_items w.states)) × AllPermitted m s ws
+AllPermitted m s ws = All (λ w. Run m s (map part (vec_items w.states))) ws

@@ -1,5 +1,5 @@
 -- Simulated runs against bounds and keep-outs.
-use Rattle.std.specs.Prelude.{ℕ, ◌+◌, cond, List, [], ◌∷◌, ℤ, Some, None, vec_items, vec_len, fold, Option}
+use Rattle.std.specs.Prelude.{ℕ, List, ℤ, Some, None, vec_items, vec_len, count_by, fold, Option}
 use Rattle.dynamics.specs.declared.direction.Direction.{Direction}
 use Rattle.dynamics.specs.declared.keep_out.KeepOut.{KeepOut}
 use Rattle.trials.specs.declared.tally.Tally.{Tally}
@@ -10,13 +10,11 @@ use Rattle.trials.specs.Walks.{state_at}
 
 -- how many runs lie beyond a bound at step k
 abbrev pub escaping : Direction → ℤ → ℕ → List Walk → ℕ
-escaping l b k [] = 0
-escaping l b k (w ∷ ws) = cond (escapes l b (state_at (vec_items w.states) k)) 1 0 + escaping l b k ws
+escaping l b k ws = count_by (λ w. escapes l b (state_at (vec_items w.states) k)) ws
 
 -- how many runs enter a keep-out
 abbrev pub entering : KeepOut → List Walk → ℕ
-entering o [] = 0
-entering o (w ∷ ws) = cond (enters_any o (vec_items w.states)) 1 0 + entering o ws
+entering o ws = count_by (λ w. enters_any o (vec_items w.states)) ws
 
 -- what is counted of one bound
 abbrev pub seen : Direction → Option ℤ → ℕ → List Walk → Tally

@@ -1,5 +1,6 @@
 -- Single states against bounds and keep-outs.
-use Rattle.std.specs.Prelude.{ℕ, ◌^◌, Bool, true, false, not, ◌||◌, List, [], ◌∷◌, ℤ, pos, ◌+ℤ◌, ◌*ℤ◌, ◌≤ℤ◌, Some, None, Option, int_lt}
+use Rattle.std.specs.Prelude.{ℕ, ◌^◌, Bool, true, false, not, List, ℤ, pos, ◌+ℤ◌, ◌*ℤ◌, ◌≤ℤ◌, Some, None, Option, int_lt}
+use Rattle.std.specs.List.{list_any}
 use Rattle.arith.specs.Sums.{part}
 use Rattle.arith.specs.Products.{dot}
 use Rattle.dynamics.specs.declared.direction.Direction.{Direction}
@@ -17,8 +18,7 @@ entered k x = not (int_lt (dot (along k.direction) (part x)) k.threshold)
 
 -- some state of a list has entered
 abbrev pub enters_any : KeepOut → List (List ℤ) → Bool
-enters_any k [] = false
-enters_any k (x ∷ xs) = entered k x || enters_any k xs
+enters_any k xs = list_any (entered k) xs
 
 -- where a side has a bound, the product has one that is not above it
 abbrev pub refined : Option ℤ → Option ℤ → Option Bool

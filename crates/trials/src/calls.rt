@@ -1,32 +1,17 @@
 //! The limits of a tube's calls and of the report writer.
-ghost use Rattle.std.specs.Prelude.{◌≡◌, IfOk, MatchResult};
-ghost use Rattle.tube.specs.Faults.{fault_number};
+ghost use Rattle.std.specs.Prelude.{◌≡◌, ◌+◌, ◌^◌, ◌≤◌, IfOk};
 ghost use Rattle.trials.specs.Counts.{total};
 
 use super::marks::Marks;
-use domains::domain::Domain;
 use domains::interval_box::IntervalBox;
 use dynamics::channel::Channel;
 use dynamics::keep_out::KeepOut;
 use dynamics::model::Model;
 use dynamics::refusal::Refusal;
 use dynamics::start::Start;
-use plan::writer::{Full, Writer};
+use plan::writer::Writer;
 use tube::fault::Fault;
-use tube::launched::Launched;
 use tube::opened::Opened;
-
-/// The number of a refused call, or 0.
-fn told<T: Drop>(answer: Result<T, Fault>) -> usize
-    ensures { MatchResult answer (λ _. result ≡ 0) (λ e. result ≡ fault_number e) }
-{
-    match answer {
-        Ok(_) => 0,
-        Err(Fault::WatchLimit) => 11,
-        Err(Fault::StepLimit) => 12,
-        Err(Fault::NoKeepOut) => 13,
-    }
-}
 
 /// A tube at rest, opened.
 fn at_rest() -> Result<Opened<IntervalBox>, Refusal>
@@ -42,84 +27,49 @@ fn at_rest() -> Result<Opened<IntervalBox>, Refusal>
     Ok(Opened::open(model, start, IntervalBox::new()))
 }
 
-/// Seventeen watches, of which the last is refused.
-fn check_watches<D: Domain>(tube: &mut Opened<D>, keep_out: &KeepOut) -> Marks
-    ensures { total result ≡ 17 }
+/// As many calls as are accepted, numbered from 0, and one more, which is refused.
+fn check_limit<F: FnMut(usize) -> Option<Fault>>(
+    accepted: usize,
+    fault: Fault,
+    mut call: F,
+) -> Marks
+    requires few { accepted ≤ 2 ^ 20 }
+    requires callable { F.IsAlwaysCallable call }
+    ensures { total result ≡ accepted + 1 }
 {
-    let mut marks = Marks::new();
-    for n in 0..17usize {
-        let expected = if n < 16 { 0 } else { 11 };
-        marks.mark(Some(told(tube.watch(keep_out)) == expected));
+    let mut marks = Marks::default();
+    for n in 0..accepted + 1 {
+        marks.mark(Some(call(n) == (n == accepted).then_some(fault)));
     }
     marks
-}
-
-/// Seventeen findings, of which the last is refused.
-fn check_findings<D: Domain>(tube: &Launched<D>) -> Marks
-    ensures { total result ≡ 17 }
-{
-    let mut marks = Marks::new();
-    for n in 0..17usize {
-        let expected = if n < 16 { 0 } else { 13 };
-        marks.mark(Some(told(tube.finding(n)) == expected));
-    }
-    marks
-}
-
-/// 257 steps, of which the last is refused.
-fn check_steps<D: Domain>(tube: &mut Launched<D>) -> Marks
-    ensures { total result ≡ 257 }
-{
-    let mut marks = Marks::new();
-    for n in 0..257usize {
-        let expected = if n < 256 { 0 } else { 12 };
-        marks.mark(Some(told(tube.step()) == expected));
-    }
-    marks
-}
-
-/// The number of a refused line, or 0.
-fn told_line(answer: Result<(), Full>) -> usize
-    ensures { MatchResult answer (λ _. result ≡ 0) (λ _. result ≡ 14) }
-{
-    match answer {
-        Ok(()) => 0,
-        Err(full) => full.number(),
-    }
 }
 
 /// A line of 16 bytes in a buffer of 16, once and again, and in one of 15.
 fn check_lines() -> Marks
     ensures { total result ≡ 4 }
 {
-    let mut marks = Marks::new();
+    let mut marks = Marks::default();
     let mut page = [0u8; 16];
-    let mut out = Writer {
-        buf: &mut page,
-        len: 0,
-    };
-    marks.mark(Some(told_line(out.clear(b"stop")) == 0));
-    marks.mark(Some(told_line(out.clear(b"stop")) == 14));
+    let mut out = Writer::over(&mut page);
+    marks.mark(Some(out.clear(b"stop").is_ok()));
+    marks.mark(Some(out.clear(b"stop").err().map(|full| full.number()) == Some(14)));
     marks.mark(Some(out.text() == b"keep\tstop\tclear\n".as_slice()));
     let mut short = [0u8; 15];
-    let mut out = Writer {
-        buf: &mut short,
-        len: 0,
-    };
-    marks.mark(Some(told_line(out.clear(b"stop")) == 14));
+    let mut out = Writer::over(&mut short);
+    marks.mark(Some(out.clear(b"stop").err().map(|full| full.number()) == Some(14)));
     marks
 }
 
-/// All of these: 17 + 17 + 257 + 4 comparisons.
+/// All of these: 17 watches, 17 findings and 257 steps, of which the last is refused, and 4 lines.
 pub fn check_calls() -> Result<Marks, Refusal>
     ensures { IfOk result (λ m. total m ≡ 295) }
 {
     let mut opened = at_rest()?;
     let keep_out = KeepOut::new([1, 0, 0, 0], 1)?;
-    let watches = check_watches(&mut opened, &keep_out);
+    let watches = check_limit(16, Fault::WatchLimit, |_| opened.watch(&keep_out).err());
     let mut tube = opened.launch();
-    let findings = check_findings(&tube);
-    let steps = check_steps(&mut tube);
+    let findings = check_limit(16, Fault::NoKeepOut, |n| tube.finding(n).err());
+    let steps = check_limit(256, Fault::StepLimit, |_| tube.step().err());
     tube.finish();
-    Ok(watches.plus(findings).plus(steps).plus(check_lines()))
+    Ok(watches + findings + steps + check_lines())
 }

@@ -39,10 +39,7 @@ fn axes(heap: Global) -> Result<Vec<Direction>, Trouble>
     ensures { IfOk result (λ v. vec_len v ≡ 8) }
 {
     let mut directions = Vec::new(heap);
-    for index in 0..8usize {
-        let Some(axis) = SignedAxis::new(index) else {
-            unreachable()
-        };
+    for axis in SignedAxis::all() {
         directions.push(axis.direction())?;
     }
     Ok(directions)

@@ -19,28 +19,27 @@ use tube::opened::Opened;
 fn count_escapes(direction: &Direction, bound: i64, walks: &[Walk], step: usize) -> u64
     ensures { result ≡ escaping direction.now bound step walks.now }
 {
-    let mut count = 0;
-    for walk in walks {
-        if escapes(direction, bound, walk.at(step)) {
-            count += 1;
-        }
-    }
-    count
+    walks
+        .iter()
+        .filter(|walk| escapes(direction, bound, walk.at(step)))
+        .count() as u64
 }
 
 /// The runs against one bound.
 fn check_bound(direction: &Direction, bound: Option<i64>, walks: &[Walk], step: usize) -> Tally
     ensures { result ≡ seen direction.now bound step walks.now }
 {
-    let mut tally = Tally::new();
     match bound {
-        Some(bound) => {
-            tally.present = 1;
-            tally.escapes = count_escapes(direction, bound, walks, step);
-        }
-        None => tally.absent = 1,
+        Some(bound) => Tally {
+            present: 1,
+            escapes: count_escapes(direction, bound, walks, step),
+            ..Tally::default()
+        },
+        None => Tally {
+            absent: 1,
+            ..Tally::default()
+        },
     }
-    tally
 }
 
 /// The runs against the bounds of a tube in each direction.
@@ -54,10 +53,9 @@ fn check_step<D: Domain>(
     ensures count { looked result ≡ length directions.now }
     ensures value { result ≡ seen_in (λ l. D.sense.bounded l (D.form tube.now.domain)) step walks.now directions.now }
 {
-    let mut tally = Tally::new();
+    let mut tally = Tally::default();
     for direction in directions {
-        let more = check_bound(direction, tube.bound(direction), walks, step);
-        tally = tally.plus(more);
+        tally = tally + check_bound(direction, tube.bound(direction), walks, step);
     }
     tally
 }
@@ -66,13 +64,7 @@ fn check_step<D: Domain>(
 fn count_entering(keep_out: &KeepOut, walks: &[Walk]) -> u64
     ensures { result ≡ entering keep_out.now walks.now }
 {
-    let mut count = 0;
-    for walk in walks {
-        if walk.enters(keep_out) {
-            count += 1;
-        }
-    }
-    count
+    walks.iter().filter(|walk| walk.enters(keep_out)).count() as u64
 }
 
 /// The runs against the keep-outs that a tube finds clear.
@@ -83,13 +75,15 @@ fn check_findings<D: Domain>(
 ) -> Result<Tally, Fault>
     ensures { IfOk result (λ t. looked t ≡ 0) }
 {
-    let mut tally = Tally::new();
+    let mut tally = Tally::default();
     for (n, keep_out) in keep_outs.iter().enumerate() {
-        if let Finding::Clear = tube.finding(n)? {
-            let mut found = Tally::new();
-            found.clear = 1;
-            found.entered = count_entering(keep_out, walks);
-            tally = tally.plus(found);
+        if tube.finding(n)? == Finding::Clear {
+            let clear = Tally {
+                clear: 1,
+                entered: count_entering(keep_out, walks),
+                ..Tally::default()
+            };
+            tally = tally + clear;
         }
     }
     Ok(tally)
@@ -114,12 +108,11 @@ pub fn check_domain<D: Domain + Drop>(domain: D, case: &Case) -> Result<Tally, F
     watch_all(&mut opened, &case.keep_outs)?;
     let mut tube = opened.launch();
     let mut tally = check_step(&tube, &case.directions, &case.walks, 0);
-    for step in 1..STEPS + 1 {
+    for step in 1..=STEPS {
         tube.step()?;
-        let more = check_step(&tube, &case.directions, &case.walks, step);
-        tally = tally.plus(more);
+        tally = tally + check_step(&tube, &case.directions, &case.walks, step);
     }
     let found = check_findings(&tube, &case.keep_outs, &case.walks)?;
     tube.finish();
-    Ok(tally.plus(found))
+    Ok(tally + found)
 }

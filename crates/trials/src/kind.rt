@@ -1,6 +1,8 @@
 //! The kinds of plans that are tried, and the limits of their numbers.
-ghost use Rattle.std.specs.Prelude.{◌≡◌, ◌^◌, pos, ◌≤ℤ◌};
-ghost use Rattle.trials.specs.Kinds.{whole, tame, lead_size, other_size, gain_size, gust_size, start_size};
+ghost use Rattle.std.specs.Prelude.{◌≡◌, ◌^◌, pos, ◌≤ℤ◌, Some};
+ghost use Rattle.trials.specs.Kinds.{name, whole, tame, lead_size, other_size, gain_size, gust_size, start_size};
+
+use std::fmt;
 
 /// In the last two the numbers soon pass every limit of a bounded set; in the others they never do
 /// while a plan is followed.
@@ -16,10 +18,12 @@ pub enum Kind {
     Extreme,
 }
 
-impl Kind {
-    /// The name that is printed.
-    pub fn name(self) -> &'static str {
-        match self {
+/// The name that is printed.
+impl fmt::Display for Kind {
+    ghost output = { λ k. Some (name k) };
+
+    fn fmt<W: fmt::Write>(&self, f: &mut fmt::Formatter<W>) -> fmt::Result {
+        f.write_str(match self {
             Kind::Contracting => "contracting",
             Kind::Neutral => "neutral",
             Kind::Growing => "growing",
@@ -28,27 +32,23 @@ impl Kind {
             Kind::StrongGusts => "strong gusts",
             Kind::Steep => "steep",
             Kind::Extreme => "extreme",
-        }
+        })
     }
+}
 
+impl Kind {
     /// Whether all sets stay bounded for as long as they are followed.
     pub fn is_tame(self) -> bool
         ensures { result ≡ tame self }
     {
-        match self {
-            Kind::Steep | Kind::Extreme => false,
-            _ => true,
-        }
+        !matches!(self, Kind::Steep | Kind::Extreme)
     }
 
     /// Whether every row is whole: entries and gains are then 4096 times a drawn number.
     pub fn is_whole(self) -> bool
         ensures { result ≡ whole self }
     {
-        match self {
-            Kind::Whole => true,
-            _ => false,
-        }
+        matches!(self, Kind::Whole)
     }
 
     /// The size of the leading entry of each row, or 0 where none leads.

@@ -47,15 +47,13 @@ const KINDS: [Kind; 8] = [
 fn main(rt: HostRuntime) -> anyhow::Result<()> {
     show_stored(&rt, "texts", check_texts(rt.alloc())?)?;
     show_stored(&rt, "numbers", check_numbers())?;
-    let Ok(calls) = check_calls() else {
-        return Err(anyhow!("no tube could be opened"));
-    };
+    let calls = check_calls().map_err(|_| anyhow!("no tube could be opened"))?;
     show_stored(&rt, "calls", calls)?;
     let mut random = Random::new(20260101);
     for kind in KINDS {
-        let Ok(outcome) = try_kind(rt.alloc(), kind, &mut random) else {
-            return Err(anyhow!("a trial could not be made"));
-        };
+        let outcome = try_kind(rt.alloc(), kind, &mut random).map_err(|_| anyhow!(
+            "a trial could not be made"
+        ))?;
         show_kind(&rt, kind, outcome)?;
     }
     Ok(())

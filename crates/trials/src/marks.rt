@@ -2,8 +2,10 @@
 ghost use Rattle.std.specs.Prelude.{◌≡◌, ◌+◌, ◌^◌, ◌≤◌};
 ghost use Rattle.trials.specs.Counts.{marked, total};
 
+use std::ops::Add;
+
 /// Comparisons that held, that failed, and that could not be made.
-#[derive(Clone, Copy)]
+#[derive(Clone, Copy, Default)]
 pub struct Marks {
     pub held: u64,
     pub failed: u64,
@@ -11,17 +13,6 @@ pub struct Marks {
 }
 
 impl Marks {
-    /// No comparisons.
-    pub fn new() -> Marks
-        ensures { (result.held ≡ 0) × (result.failed ≡ 0) × (result.unmade ≡ 0) }
-    {
-        Marks {
-            held: 0,
-            failed: 0,
-            unmade: 0,
-        }
-    }
-
     /// One comparison more.
     pub fn mark(&mut self, outcome: Option<bool>)
         requires { total self.old ≤ 2 ^ 40 }
@@ -34,12 +25,17 @@ impl Marks {
             None => self.unmade += 1,
         }
     }
+}
 
-    /// Both counts together.
-    pub fn plus(self, other: Marks) -> Marks
-        requires { (total self ≤ 2 ^ 40) × (total other ≤ 2 ^ 40) }
-        ensures { (result.held ≡ self.held + other.held) × (result.failed ≡ self.failed + other.failed) × (result.unmade ≡ self.unmade + other.unmade) }
-    {
+/// Both counts together.
+impl Add for Marks {
+    type Output = Marks;
+
+    ghost can_add = { λ a b. (total a ≤ 2 ^ 40) × (total b ≤ 2 ^ 40) };
+
+    ghost add_gives = { λ a b r. (r.held ≡ a.held + b.held) × (r.failed ≡ a.failed + b.failed) × (r.unmade ≡ a.unmade + b.unmade) };
+
+    fn add(self, other: Marks) -> Marks {
         Marks {
             held: self.held + other.held,
             failed: self.failed + other.failed,

@@ -1,8 +1,8 @@
 //! Values made from numbers: every place out of range, and sums that are too large.
-ghost use Rattle.std.specs.Prelude.{◌≡◌, ℕ, ◌+◌, ◌≤◌, MatchResult};
+ghost use Rattle.std.specs.Prelude.{◌≡◌, ℕ, ◌+◌, ◌^◌, ◌<◌, ◌≤◌, slice_set};
+ghost use Rattle.std.specs.Option.{option_map};
 ghost use Rattle.arith.specs.Sums.{part, listed};
-ghost use Rattle.dynamics.specs.Refusals.{number, place as place_of};
-ghost use Rattle.trials.specs.Numbers.{ModelTold, StartTold};
+ghost use Rattle.trials.specs.Numbers.{told, model_told, start_told};
 ghost use Rattle.trials.specs.Counts.{total};
 
 use super::marks::Marks;
@@ -13,31 +13,12 @@ use dynamics::model::Model;
 use dynamics::refusal::Refusal;
 use dynamics::start::Start;
 
-/// The number and place of a refusal.
-fn told(refusal: Refusal) -> (usize, usize)
-    ensures { (result.0 ≡ number refusal) × (result.1 ≡ place_of refusal) }
-{
-    match refusal {
-        Refusal::OutOfRange { place } => (5, place),
-        Refusal::TooLarge { place } => (7, place),
-    }
-}
-
-/// The number and place of a refusal, or 0 and 0.
-fn told_of<T: Drop>(made: Result<T, Refusal>) -> (usize, usize)
-    ensures { MatchResult made (λ _. (result.0 ≡ 0) × (result.1 ≡ 0)) (λ e. (result.0 ≡ number e) × (result.1 ≡ place_of e)) }
-{
-    match made {
-        Ok(_) => (0, 0),
-        Err(refusal) => told(refusal),
-    }
-}
-
 /// Four numbers from a place on.
 fn four(numbers: [i64; 28], from: usize) -> [i64; 4]
     requires { from + 4 ≤ 28 }
     ensures { result ≡ listed 4 (λ i. part numbers (from + i)) }
 {
+    // Written out: the proof of `from_fn` over `from` stays open.
     [
         numbers[from],
         numbers[from + 1],
@@ -58,9 +39,9 @@ fn channel(numbers: [i64; 28], from: usize) -> Channel
     }
 }
 
-/// What is told of a model of 28 numbers.
-fn told_of_model(numbers: [i64; 28]) -> (usize, usize)
-    ensures { ModelTold numbers result.0 result.1 }
+/// The refusal of a model of 28 numbers, if it is refused.
+fn model_refusal(numbers: [i64; 28]) -> Option<Refusal>
+    ensures { option_map told result ≡ model_told numbers }
 {
     let matrix = [
         four(numbers, 0),
@@ -68,40 +49,35 @@ fn told_of_model(numbers: [i64; 28]) -> (usize, usize)
         four(numbers, 8),
         four(numbers, 12),
     ];
-    told_of(Model::new(matrix, channel(numbers, 16), channel(numbers, 22)))
+    Model::new(matrix, channel(numbers, 16), channel(numbers, 22)).err()
 }
 
-/// What is told of a start of eight numbers.
-fn told_of_start(n: [i64; 8]) -> (usize, usize)
-    ensures { StartTold n result.0 result.1 }
+/// The refusal of a start of eight numbers, if it is refused.
+fn start_refusal(n: [i64; 8]) -> Option<Refusal>
+    ensures { option_map told result ≡ start_told n }
 {
-    told_of(Start::new([n[0], n[2], n[4], n[6]], [n[1], n[3], n[5], n[7]]))
+    Start::new([n[0], n[2], n[4], n[6]], [n[1], n[3], n[5], n[7]]).err()
 }
 
-/// A model with one number out of range, at each place.
-fn check_model_places() -> Marks
-    ensures { total result ≡ 28 }
+/// Numbers with another one at an index.
+fn with<const N: usize>(mut numbers: [i64; N], index: usize, number: i64) -> [i64; N]
+    requires { index < N }
+    ensures { result ≡ slice_set numbers.entry index number }
 {
-    let mut marks = Marks::new();
-    for place in 1..29usize {
-        let mut numbers = [0; 28];
-        numbers[place - 1] = 16777217;
-        marks.mark(Some(told_of_model(numbers) == (5, place)));
-    }
-    marks
+    numbers[index] = number;
+    numbers
 }
 
-/// A start with one number out of range, at each place, above and below.
-fn check_start_places() -> Marks
-    ensures { total result ≡ 16 }
+/// So many numbers of which the one at an index is out of range, at each index.
+fn check_places<F: Fn(usize) -> Option<Refusal>>(count: usize, refusal: F) -> Marks
+    requires few { count ≤ 2 ^ 20 }
+    requires callable { (index : ℕ) → index < count → F.pre refusal index }
+    ensures { total result ≡ count }
 {
-    let mut marks = Marks::new();
-    for place in 1..9usize {
-        let mut numbers = [0; 8];
-        numbers[place - 1] = 1073741825;
-        marks.mark(Some(told_of_start(numbers) == (5, place)));
-        numbers[place - 1] = -1073741825;
-        marks.mark(Some(told_of_start(numbers) == (5, place)));
+    let mut marks = Marks::default();
+    for index in 0..count {
+        let expected = Refusal::OutOfRange { place: index + 1 };
+        marks.mark(Some(refusal(index) == Some(expected)));
     }
     marks
 }
@@ -110,27 +86,14 @@ fn check_start_places() -> Marks
 fn check_start_sums() -> Marks
     ensures { total result ≡ 8 }
 {
-    let mut marks = Marks::new();
+    let mut marks = Marks::default();
     for part in 0..4usize {
         let mut numbers = [0; 8];
         numbers[2 * part] = -1073741824;
-        marks.mark(Some(told_of_start(numbers) == (0, 0)));
+        marks.mark(Some(start_refusal(numbers) == None));
         numbers[2 * part + 1] = 1;
-        marks.mark(Some(told_of_start(numbers) == (7, 2 * part + 2)));
-    }
-    marks
-}
-
-/// A keep-out, and its direction, with one number out of range, at each place.
-fn check_direction_places() -> Marks
-    ensures { total result ≡ 8 }
-{
-    let mut marks = Marks::new();
-    for place in 1..5usize {
-        let mut entries = [1048576, -1048576, 0, 0];
-        entries[place - 1] = -1048577;
-        marks.mark(Some(told_of(Direction::new(entries)) == (5, place)));
-        marks.mark(Some(told_of(KeepOut::new(entries, 4503599627370497)) == (5, place)));
+        let place = 2 * part + 2;
+        marks.mark(Some(start_refusal(numbers) == Some(Refusal::TooLarge { place })));
     }
     marks
 }
@@ -139,14 +102,14 @@ fn check_direction_places() -> Marks
 fn check_model_sums() -> Marks
     ensures { total result ≡ 3 }
 {
-    let mut marks = Marks::new();
+    let mut marks = Marks::default();
     let mut numbers = [0; 28];
     numbers[20] = 16777216;
-    marks.mark(Some(told_of_model(numbers) == (0, 0)));
+    marks.mark(Some(model_refusal(numbers) == None));
     numbers[21] = 1;
-    marks.mark(Some(told_of_model(numbers) == (7, 22)));
+    marks.mark(Some(model_refusal(numbers) == Some(Refusal::TooLarge { place: 22 })));
     numbers[27] = -1;
-    marks.mark(Some(told_of_model(numbers) == (5, 28)));
+    marks.mark(Some(model_refusal(numbers) == Some(Refusal::OutOfRange { place: 28 })));
     marks
 }
 
@@ -154,24 +117,32 @@ fn check_model_sums() -> Marks
 fn check_last_places() -> Marks
     ensures { total result ≡ 3 }
 {
-    let mut marks = Marks::new();
+    let mut marks = Marks::default();
     let mut numbers = [0; 28];
     numbers[26] = -1;
     numbers[27] = 16777216;
-    marks.mark(Some(told_of_model(numbers) == (7, 28)));
-    marks.mark(Some(told_of(KeepOut::new([0; 4], 4503599627370496)) == (0, 0)));
-    marks.mark(Some(told_of(KeepOut::new([0; 4], 4503599627370497)) == (5, 5)));
+    marks.mark(Some(model_refusal(numbers) == Some(Refusal::TooLarge { place: 28 })));
+    marks.mark(Some(KeepOut::new([0; 4], 4503599627370496).is_ok()));
+    marks.mark(Some(
+        KeepOut::new([0; 4], 4503599627370497).err() == Some(Refusal::OutOfRange { place: 5 }),
+    ));
     marks
 }
 
-/// All of these: 28 + 16 + 8 + 8 + 3 + 3 comparisons.
+/// All of these: 28 places of a model, 8 of a start above and below, 4 of a direction and of a
+/// keep-out, and 8 + 3 + 3 comparisons more.
 pub fn check_numbers() -> Marks
     ensures { total result ≡ 66 }
 {
-    check_model_places()
-        .plus(check_start_places())
-        .plus(check_start_sums())
-        .plus(check_direction_places())
-        .plus(check_model_sums())
-        .plus(check_last_places())
+    let entries = [1048576, -1048576, 0, 0];
+    check_places(28, |i| model_refusal(with([0; 28], i, 16777217)))
+        + check_places(8, |i| start_refusal(with([0; 8], i, 1073741825)))
+        + check_places(8, |i| start_refusal(with([0; 8], i, -1073741825)))
+        + check_places(4, |i| Direction::new(with(entries, i, -1048577)).err())
+        + check_places(4, |i| {
+            KeepOut::new(with(entries, i, -1048577), 4503599627370497).err()
+        })
+        + check_start_sums()
+        + check_model_sums()
+        + check_last_places()
 }

@@ -1,6 +1,6 @@
 //! Numbers drawn from a fixed seed, so that the program does the same each time.
 ghost use Rattle.std.specs.Prelude.{◌≡◌, ◌+◌, ◌*◌, ◌/◌, ◌^◌, ◌<◌, ◌≤◌, length, pos, ◌-ℤ◌, ◌≤ℤ◌, unsigned_abs};
-ghost use Rattle.trials.specs.Random.{next};
+ghost use Rattle.trials.specs.Random.{next, Drawable};
 
 /// A linear congruential generator.
 #[derive(Drop)]
@@ -66,7 +66,7 @@ impl Random {
 
     /// A number within `radius` of `centre`, or one of the two farthest.
     pub fn about(&mut self, centre: i64, radius: i64, at_end: bool) -> i64
-        requires { (pos 0 ≤ℤ radius) × (unsigned_abs centre + unsigned_abs radius ≤ 2 ^ 30) }
+        requires { Drawable centre radius }
         ensures { unsigned_abs (result -ℤ centre) ≤ unsigned_abs radius }
     {
         let offset = if at_end {
@@ -81,11 +81,6 @@ impl Random {
     pub fn roundings(&mut self) -> [bool; 4]
         ensures { length result ≡ 4 }
     {
-        [
-            self.below(2) == 0,
-            self.below(2) == 0,
-            self.below(2) == 0,
-            self.below(2) == 0,
-        ]
+        std::array::from_fn(|_| self.below(2) == 0)
     }
 }

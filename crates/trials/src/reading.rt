@@ -1,12 +1,13 @@
 //! The stored plan texts against the reader.
 ghost use Rattle.std.specs.Prelude.{◌≡◌, IfOk, string_bytes};
 ghost use Rattle.plan.specs.Plans.{plan_of};
-ghost use Rattle.trials.specs.Texts.{told_numbers, text_of};
+ghost use Rattle.trials.specs.Texts.{told_of, expected_of, text_of};
 ghost use Rattle.trials.specs.Counts.{total};
 
 use super::marks::Marks;
 use super::texts::{CASES, TextCase};
 use plan::reader::read_plan;
+use plan::told::Told;
 use std::alloc::{AllocError, Global};
 
 /// The text of a case.
@@ -24,27 +25,34 @@ fn spelled(heap: Global, case: &TextCase) -> Result<String, AllocError>
     Ok(text)
 }
 
-/// The number, line, field and place of a text's refusal, all 0 where it is a plan.
-fn told_of(text: &[u8]) -> [usize; 4]
-    ensures { result ≡ told_numbers (plan_of text.now) }
+/// What a text's refusal tells, if it is refused.
+fn told(text: &[u8]) -> Option<Told>
+    ensures { result ≡ told_of (plan_of text.now) }
 {
-    match read_plan(text) {
-        Ok(_) => [0; 4],
-        Err(refusal) => {
-            let told = refusal.told();
-            [told.number, told.line, told.field, told.place]
-        }
-    }
+    read_plan(text).err().map(|refusal| refusal.told())
+}
+
+/// What is to be told of a case.
+fn expected(case: &TextCase) -> Option<Told>
+    ensures { result ≡ expected_of case.now }
+{
+    let [number, line, field, place] = case.told?;
+    Some(Told {
+        number,
+        line,
+        field,
+        place,
+    })
 }
 
 /// Each stored text against what the reader says of it.
 pub fn check_texts(heap: Global) -> Result<Marks, AllocError>
     ensures { IfOk result (λ m. total m ≡ 51) }
 {
-    let mut marks = Marks::new();
+    let mut marks = Marks::default();
     for case in CASES.iter() {
         let text = spelled(heap, case)?;
-        marks.mark(Some(told_of(text.as_bytes()) == case.told));
+        marks.mark(Some(told(text.as_bytes()) == expected(case)));
     }
     Ok(marks)
 }

@@ -16,10 +16,7 @@ fn is_refined(product: Option<i64>, side: Option<i64>) -> Option<bool>
     ensures { result ≡ refined product side }
 {
     let side = side?;
-    let Some(product) = product else {
-        return Some(false);
-    };
-    Some(product <= side)
+    Some(product.is_some_and(|product| product <= side))
 }
 
 /// A product against its two sides in each direction.
@@ -32,7 +29,7 @@ fn compare<P: Domain, Q: Domain, R: Domain>(
     requires { length directions.now ≤ 2 ^ 20 }
     ensures { total result ≡ 2 * length directions.now }
 {
-    let mut marks = Marks::new();
+    let mut marks = Marks::default();
     for direction in directions {
         let bound = product.bound(direction);
         marks.mark(is_refined(bound, left.bound(direction)));
@@ -57,8 +54,7 @@ pub fn check_refined(case: &Case) -> Marks
         product.advance(&case.model);
         left.advance(&case.model);
         right.advance(&case.model);
-        let more = compare(&product, &left, &right, &case.directions);
-        marks = marks.plus(more);
+        marks = marks + compare(&product, &left, &right, &case.directions);
     }
     marks
 }

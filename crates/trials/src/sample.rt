@@ -6,7 +6,7 @@ ghost use Rattle.trials.specs.Kinds.{gust_size, start_size};
 
 use super::kind::Kind;
 use super::random::Random;
-use arith::kernel::scalar_product;
+use arith::kernel::product;
 use dynamics::channel::Channel;
 use dynamics::direction::Direction;
 use dynamics::keep_out::KeepOut;
@@ -45,12 +45,11 @@ fn draw_entries(random: &mut Random, limit: i64, whole: bool) -> [i64; 4]
     requires { (pos 0 ≤ℤ limit) × (limit ≤ℤ pos (2 ^ 20)) }
     ensures { (i : ℕ) → i < 4 → unsigned_abs (part result i) ≤ 4096 * unsigned_abs limit }
 {
-    [
-        draw_entry(random, limit, whole),
-        draw_entry(random, limit, whole),
-        draw_entry(random, limit, whole),
-        draw_entry(random, limit, whole),
-    ]
+    let mut entries = [0; 4];
+    for entry in &mut entries {
+        *entry = draw_entry(random, limit, whole);
+    }
+    entries
 }
 
 /// A row of the loop matrix, whose leading entry, if there is one, stands in a column.
@@ -71,12 +70,7 @@ fn draw_matrix(random: &mut Random, kind: Kind) -> [[i64; 4]; 4]
     ensures { length result ≡ 4 }
 {
     let turn = random.below(4) as usize;
-    [
-        draw_row(random, kind, turn),
-        draw_row(random, kind, (turn + 1) % 4),
-        draw_row(random, kind, (turn + 2) % 4),
-        draw_row(random, kind, (turn + 3) % 4),
-    ]
+    std::array::from_fn(|i| draw_row(random, kind, (turn + i) % 4))
 }
 
 fn draw_channel(random: &mut Random, kind: Kind) -> Channel
@@ -106,6 +100,7 @@ pub fn draw_start(random: &mut Random, kind: Kind) -> Result<Start, Refusal>
     ensures { IfOk result (λ s. (i : ℕ) → i < 4 → unsigned_abs (centre s i) + width s i ≤ start_size kind) }
 {
     let limit = kind.start();
+    // One by one: a loop would write two arrays by index, and is no plainer.
     let a = draw_pair(random, limit);
     let b = draw_pair(random, limit);
     let c = draw_pair(random, limit);
@@ -152,14 +147,9 @@ pub fn draw_keep_out(start: &Start, random: &mut Random) -> Result<KeepOut, Refu
     ensures { IfOk result (λ k. unsigned_abs k.threshold ≤ 2 ^ 52) }
 {
     let l = draw_direction(random)?.entries();
-    let sizes = [
-        l[0].wrapping_abs(),
-        l[1].wrapping_abs(),
-        l[2].wrapping_abs(),
-        l[3].wrapping_abs(),
-    ];
-    let middle = scalar_product(l, start.centres());
-    let reach = middle.saturating_add(scalar_product(sizes, start.radii()));
+    let sizes = l.map(|entry| entry.wrapping_abs());
+    let middle = product(l, start.centres());
+    let reach = middle.saturating_add(product(sizes, start.radii()));
     KeepOut::new(
         l,
         reach.saturating_add(draw_gap(random)).min(4503599627370496),

@@ -8,9 +8,7 @@ use std::io;
 
 /// Stored cases: how many were compared, and how many differ.
 pub fn show_stored(rt: &impl Print, name: &str, marks: Marks) -> io::Result<()> {
-    let held = marks.held;
-    let failed = marks.failed;
-    println!(rt; "{name}: {held} agree, {failed} differ")
+    println!(rt; "{name}: {} agree, {} differ", marks.held, marks.failed)
 }
 
 /// Whether any were counted.
@@ -20,10 +18,11 @@ fn some(count: u64) -> &'static str {
 
 /// The bounds of a tame kind: all are present, and each is held against every run.
 fn show_bounds(rt: &impl Print, states: u64, tally: Tally) -> io::Result<()> {
-    let present = tally.present;
-    let absent = tally.absent;
-    println!(rt; "  bounds: {present} present, {absent} absent")?;
-    let comparisons = present.saturating_mul(RUNS as u64);
+    println!(rt;
+        "  bounds: {} present, {} absent",
+        tally.present, tally.absent
+    )?;
+    let comparisons = tally.present.saturating_mul(RUNS as u64);
     println!(rt; "  states: {states}, comparisons: {comparisons}")?;
     let clear = some(tally.clear);
     let entered = tally.entered;
@@ -41,27 +40,28 @@ fn show_some(rt: &impl Print, tally: Tally) -> io::Result<()> {
 
 /// The comparisons for tightness and refinement of a tame kind: all can be made.
 fn show_marks(rt: &impl Print, outcome: Outcome) -> io::Result<()> {
-    let tight = outcome.tight.held;
-    let loose = outcome.tight.failed;
-    println!(rt; "  tight: {tight}, not tight: {loose}")?;
-    let refined = outcome.refined.held;
-    let raised = outcome.refined.failed;
-    println!(rt; "  refined: {refined}, not refined: {raised}")
+    let Outcome { tight, refined, .. } = outcome;
+    println!(rt; "  tight: {}, not tight: {}", tight.held, tight.failed)?;
+    println!(rt;
+        "  refined: {}, not refined: {}",
+        refined.held, refined.failed
+    )
 }
 
 /// The comparisons of any other kind.
 fn show_failed(rt: &impl Print, outcome: Outcome) -> io::Result<()> {
-    let loose = outcome.tight.failed;
-    let raised = outcome.refined.failed;
-    println!(rt; "  not tight: {loose}, not refined: {raised}")
+    let Outcome { tight, refined, .. } = outcome;
+    println!(rt;
+        "  not tight: {}, not refined: {}",
+        tight.failed, refined.failed
+    )
 }
 
 /// All that is seen of one kind.
 pub fn show_kind(rt: &impl Print, kind: Kind, outcome: Outcome) -> io::Result<()> {
-    let name = kind.name();
-    let escapes = outcome.tally.escapes;
     let runs = PLANS * RUNS;
-    println!(rt; "{name}: {PLANS} plans, {runs} runs, {escapes} escapes")?;
+    let escapes = outcome.tally.escapes;
+    println!(rt; "{kind}: {PLANS} plans, {runs} runs, {escapes} escapes")?;
     if kind.is_tame() {
         show_bounds(rt, outcome.states, outcome.tally)?;
         return show_marks(rt, outcome);

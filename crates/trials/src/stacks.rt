@@ -40,12 +40,13 @@ fn split_product() -> Split<Product>
 pub fn check_stacks(case: &Case) -> Result<Tally, Fault>
     ensures { IfOk result (λ t. looked t ≡ 1092) }
 {
-    let single = check_domain(IntervalBox::new(), case)?.plus(check_domain(Zonotope::new(), case)?);
-    let layered = check_domain(zonotope_and_box(), case)?.plus(check_domain(split_box(), case)?);
-    let split = check_domain(split_product(), case)?.plus(check_domain(
-        Split::new(split_product(), split_product()),
-        case,
-    )?);
-    let nested = check_domain(ReducedProduct::new(split_box(), Zonotope::new()), case)?;
-    Ok(single.plus(layered).plus(split).plus(nested))
+    Ok(
+        check_domain(IntervalBox::new(), case)?
+            + check_domain(Zonotope::new(), case)?
+            + check_domain(zonotope_and_box(), case)?
+            + check_domain(split_box(), case)?
+            + check_domain(split_product(), case)?
+            + check_domain(Split::new(split_product(), split_product()), case)?
+            + check_domain(ReducedProduct::new(split_box(), Zonotope::new()), case)?,
+    )
 }

@@ -5,7 +5,7 @@ ghost use Rattle.dynamics.specs.Runs.{image as image_of, Permitted};
 ghost use Rattle.dynamics.specs.Values.{middle, radius};
 
 use super::rounding::rounded;
-use arith::kernel::{gusts_times_column, matrix_times_column};
+use arith::kernel::times_column;
 use dynamics::model::Model;
 
 /// A x + B d.
@@ -15,8 +15,9 @@ fn image(model: &Model, x: [i64; 4], gusts: [i64; 2]) -> [i64; 4]
     ensures value { result ≡ listed 4 (image_of model.now (part x) (part gusts)) }
     ensures small { (i : ℕ) → i < 4 → unsigned_abs (part result i) ≤ 2 ^ 62 }
 {
-    let turned = matrix_times_column(model.matrix(), x);
-    let pushed = gusts_times_column(model.gains(), gusts);
+    let turned = times_column(model.matrix(), x);
+    let pushed = times_column(model.gains(), gusts);
+    // Written out, here and below: a loop by index over two arrays is no shorter.
     [
         turned[0] + pushed[0],
         turned[1] + pushed[1],

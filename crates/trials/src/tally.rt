@@ -1,10 +1,12 @@
 //! What is seen of tubes.
 ghost use Rattle.std.specs.Prelude.{◌≡◌, ◌+◌, ◌^◌, ◌<◌};
-ghost use Rattle.trials.specs.Counts.{joined, looked, none};
+ghost use Rattle.trials.specs.Counts.{joined, looked};
+
+use std::ops::Add;
 
 /// Bounds that were present and absent, states beyond a bound, keep-outs found clear, and runs that
 /// entered one of those.
-#[derive(Clone, Copy)]
+#[derive(Clone, Copy, Default)]
 pub struct Tally {
     pub present: u64,
     pub absent: u64,
@@ -13,25 +15,13 @@ pub struct Tally {
     pub entered: u64,
 }
 
-impl Tally {
-    /// Nothing seen.
-    pub fn new() -> Tally
-        ensures { result ≡ none }
-    {
-        Tally {
-            present: 0,
-            absent: 0,
-            escapes: 0,
-            clear: 0,
-            entered: 0,
-        }
-    }
+/// Both counts together.
+impl Add for Tally {
+    type Output = Tally;
 
-    /// Both counts together.
-    pub fn plus(self, other: Tally) -> Tally
-        ensures value { result ≡ joined self other }
-        ensures count { looked self + looked other < 2 ^ 60 → looked result ≡ looked self + looked other }
-    {
+    ghost add_gives = { λ s t r. (r ≡ joined s t) × (looked s + looked t < 2 ^ 60 → looked r ≡ looked s + looked t) };
+
+    fn add(self, other: Tally) -> Tally {
         Tally {
             present: self.present.saturating_add(other.present),
             absent: self.absent.saturating_add(other.absent),

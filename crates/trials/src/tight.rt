@@ -1,5 +1,5 @@
 //! The zonotope's bounds against the exact support number.
-ghost use Rattle.std.specs.Prelude.{◌≡◌, ◌^◌, T, pos, ◌+ℤ◌, ◌*ℤ◌, IfSome};
+ghost use Rattle.std.specs.Prelude.{◌≡◌, ◌^◌, IsTrue, pos, ◌+ℤ◌, ◌*ℤ◌, IfSome};
 ghost use Rattle.dynamics.specs.Values.{along};
 ghost use Rattle.dynamics.specs.Support.{exact as exact_of};
 ghost use Rattle.arith.specs.Sums.{listed};
@@ -19,7 +19,7 @@ pub const COMPARED: u32 = 5;
 /// Whether a bound after `k` steps is at least the exact support number and exceeds it by no more
 /// than the allowance; absent where a number does not fit.
 fn is_between(k: u32, exact: i128, bound: i64, allowance: i64) -> Option<bool>
-    ensures { IfSome result (λ b. (T b → TightBound k exact bound allowance)) }
+    ensures { IfSome result (λ b. IsTrue b → TightBound k exact bound allowance) }
 {
     let unit = scale(k)?;
     let scaled = unit.checked_mul(i128::from(bound))?;
@@ -32,13 +32,7 @@ fn is_between(k: u32, exact: i128, bound: i64, allowance: i64) -> Option<bool>
 fn widened(direction: &Direction) -> [i128; 4]
     ensures { result ≡ listed 4 (along direction.now) }
 {
-    let l = direction.entries();
-    [
-        i128::from(l[0]),
-        i128::from(l[1]),
-        i128::from(l[2]),
-        i128::from(l[3]),
-    ]
+    direction.entries().map(|entry| i128::from(entry))
 }
 
 /// Whether a bound and an allowance after `k` steps of a case are tight in a direction; absent
@@ -50,7 +44,7 @@ fn is_tight(
     bound: Option<i64>,
     allowance: Option<i64>,
 ) -> Option<bool>
-    ensures { IfSome result (λ b. (T b → TightAnswer k (exact_of case.now.model case.now.start k (along direction.now)) bound allowance)) }
+    ensures { IfSome result (λ b. (IsTrue b → TightAnswer k (exact_of case.now.model case.now.start k (along direction.now)) bound allowance)) }
 {
     let exact = exact(&case.model, &case.start, k, widened(direction))?;
     is_between(k, exact, bound?, allowance?)
@@ -60,7 +54,7 @@ fn is_tight(
 fn check_directions(zonotope: &Zonotope, case: &Case, k: u32) -> Marks
     ensures { total result ≡ 12 }
 {
-    let mut marks = Marks::new();
+    let mut marks = Marks::default();
     for direction in case.directions.iter() {
         let bound = zonotope.bound(direction);
         let allowance = zonotope.allowance(direction);
@@ -78,8 +72,7 @@ pub fn check_tight(case: &Case) -> Marks
     let mut marks = check_directions(&zonotope, case, 0);
     for k in 0..COMPARED {
         zonotope.advance(&case.model);
-        let more = check_directions(&zonotope, case, k + 1);
-        marks = marks.plus(more);
+        marks = marks + check_directions(&zonotope, case, k + 1);
     }
     marks
 }

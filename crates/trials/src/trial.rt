@@ -18,7 +18,7 @@ use std::alloc::Global;
 pub const PLANS: usize = 200;
 
 /// What was seen of tubes, of tightness and of refinement, and how many states the runs had.
-#[derive(Clone, Copy)]
+#[derive(Clone, Copy, Default)]
 pub struct Outcome {
     pub tally: Tally,
     pub tight: Marks,
@@ -30,24 +30,13 @@ pub struct Outcome {
 pub fn try_kind(heap: Global, kind: Kind, random: &mut Random) -> Result<Outcome, Trouble>
     ensures { IfOk result (λ o. (looked o.tally ≡ 218400) × (total o.tight ≡ 14400) × (total o.refined ≡ 62400)) }
 {
-    let mut tally = Tally::new();
-    let mut tight = Marks::new();
-    let mut refined = Marks::new();
-    let mut states = 0u64;
+    let mut outcome = Outcome::default();
     for _ in 0..PLANS {
         let case = Case::draw(heap, kind, random)?;
-        let seen = check_stacks(&case)?;
-        tally = tally.plus(seen);
-        let more = check_tight(&case);
-        tight = tight.plus(more);
-        let more = check_refined(&case);
-        refined = refined.plus(more);
-        states = states.saturating_add(count_states(&case.walks));
+        outcome.tally = outcome.tally + check_stacks(&case)?;
+        outcome.tight = outcome.tight + check_tight(&case);
+        outcome.refined = outcome.refined + check_refined(&case);
+        outcome.states = outcome.states.saturating_add(count_states(&case.walks));
     }
-    Ok(Outcome {
-        tally,
-        tight,
-        refined,
-        states,
-    })
+    Ok(outcome)
 }

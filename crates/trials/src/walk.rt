@@ -5,6 +5,7 @@ ghost use Rattle.dynamics.specs.Runs.{Started, Run};
 ghost use Rattle.dynamics.specs.Values.{middle, radius};
 ghost use Rattle.trials.specs.Seen.{states_of};
 ghost use Rattle.trials.specs.Verdicts.{enters_any};
+ghost use Rattle.trials.specs.Random.{Drawable};
 ghost use Rattle.trials.specs.Walks.{near, state_at};
 
 use super::random::Random;
@@ -24,42 +25,43 @@ pub struct Walk {
     states: Vec<[i64; 4]>,
 }
 
+/// Numbers within radii of centres, each drawn at an end or anywhere.
+fn draw_about<const N: usize>(
+    random: &mut Random,
+    centres: [i64; N],
+    radii: [i64; N],
+    at_end: bool,
+) -> [i64; N]
+    requires { (i : ℕ) → i < N → Drawable (part centres i) (part radii i) }
+    ensures { (i : ℕ) → i < N → unsigned_abs (part result i -ℤ part centres.entry i) ≤ unsigned_abs (part radii.entry i) }
+{
+    let mut parts = centres;
+    // By index: of what is written through a zip the check knows nothing.
+    for i in 0..N {
+        parts[i] = random.about(centres[i], radii[i], at_end);
+    }
+    parts
+}
+
 /// A state of the start: at a corner, or anywhere in it.
 fn first_state(start: &Start, random: &mut Random, at_end: bool) -> [i64; 4]
     ensures { Started start.now (part result) }
 {
-    let centres = start.centres();
-    let radii = start.radii();
-    [
-        random.about(centres[0], radii[0], at_end),
-        random.about(centres[1], radii[1], at_end),
-        random.about(centres[2], radii[2], at_end),
-        random.about(centres[3], radii[3], at_end),
-    ]
+    draw_about(random, start.centres(), start.radii(), at_end)
 }
 
 /// Gusts of a model: the strongest, or any.
 fn draw_gusts(model: &Model, random: &mut Random, at_end: bool) -> [i64; 2]
     ensures { (j : ℕ) → j < 2 → unsigned_abs (part result j -ℤ middle model.now j) ≤ radius model.now j }
 {
-    let centres = model.centres();
-    let radii = model.radii();
-    [
-        random.about(centres[0], radii[0], at_end),
-        random.about(centres[1], radii[1], at_end),
-    ]
+    draw_about(random, model.centres(), model.radii(), at_end)
 }
 
 /// Whether no part of a state passes 2^39.
 fn is_near(x: [i64; 4]) -> bool
     ensures { result ≡ near x }
 {
-    for i in 0..4 {
-        if x[i].unsigned_abs() > FAR {
-            return false;
-        }
-    }
-    true
+    x.iter().all(|part| part.unsigned_abs() <= FAR)
 }
 
 impl Walk {
@@ -88,10 +90,8 @@ impl Walk {
             states.push(next)?;
             x = next;
             if !steady {
-                let drawn = draw_gusts(model, random, false);
-                gusts = drawn;
-                let turned = random.roundings();
-                up = turned;
+                gusts = draw_gusts(model, random, false);
+                up = random.roundings();
             }
         }
         Ok(Walk { states })
@@ -101,23 +101,14 @@ impl Walk {
     pub fn at(&self, step: usize) -> Option<[i64; 4]>
         ensures { result ≡ state_at self.now.states.items step }
     {
-        if step < self.states.len() {
-            Some(self.states[step])
-        } else {
-            None
-        }
+        self.states.get(step).copied()
     }
 
     /// Whether the run enters a keep-out.
     pub fn enters(&self, keep_out: &KeepOut) -> bool
         ensures { result ≡ enters_any keep_out.now self.now.states.items }
     {
-        for x in self.states.iter() {
-            if has_entered(keep_out, *x) {
-                return true;
-            }
-        }
-        false
+        self.states.iter().any(|x| has_entered(keep_out, *x))
     }
 }
 
@@ -125,9 +116,7 @@ impl Walk {
 pub fn count_states(walks: &[Walk]) -> u64
     ensures { result ≡ states_of walks.now }
 {
-    let mut count = 0u64;
-    for walk in walks {
-        count = count.saturating_add(walk.states.len() as u64);
-    }
-    count
+    walks.iter().fold(0, |count: u64, walk| {
+        count.saturating_add(walk.states.len() as u64)
+    })
 }

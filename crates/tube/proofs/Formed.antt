@@ -12,7 +12,6 @@ use Rattle.tube.specs.declared.call.Call.TheVariants.{Step, Bound, Finding as As
 use Rattle.tube.specs.Calls.{begun, called, after}
 use Rattle.tube.specs.Flights.{Flight, stepped}
 use Rattle.tube.specs.Promise.{form_at}
-use Rattle.tube.specs.Sequences.{ran}
 use Rattle.tube.specs.Tightness.{TubeTight}
 
 module _ {F : Type 0} (d : Meaning F) (m : Model) (s : Start) (f : F) where
@@ -30,7 +29,6 @@ module _ {F : Type 0} (d : Meaning F) (m : Model) (s : Start) (f : F) where
       go false = e
 
   ran_formed : (t : Flight F) (cs : List Call) → Formed t → Formed (after d m t cs)
-  unfolding ran
   ran_formed t [] e = e
   ran_formed t (c ∷ cs) e = ran_formed (called d m t c) cs (called_formed t c e)
 

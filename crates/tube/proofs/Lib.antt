@@ -5,3 +5,4 @@ pub mod Soundness
 pub mod Sequences
 pub mod Keeping
 pub mod Formed
+pub mod Counted

@@ -1,8 +1,8 @@
 pub mod Rows
+pub mod Tables
 pub mod Judging
 pub mod Faults
 pub mod Flights
-pub mod Sequences
 pub mod Calls
 pub mod Promise
 pub mod Summaries

@@ -1,5 +1,5 @@
 -- What a tube promises of permitted runs, after its launch and after each later call.
-use Rattle.std.specs.Prelude.{◌≡◌, ℕ, zero, suc, ◌<◌, ◌≤◌, true, false, List, length, get_or, ℤ, ◌≤ℤ◌, Option, slice_index_or}
+use Rattle.std.specs.Prelude.{◌≡◌, ℕ, zero, suc, ◌<◌, ◌≤◌, true, false, List, length, ℤ, ◌≤ℤ◌, Option, slice_index_or}
 use Rattle.arith.specs.Products.{dot}
 use Rattle.dynamics.specs.declared.direction.Direction.{Direction}
 use Rattle.dynamics.specs.declared.keep_out.KeepOut.{KeepOut}
@@ -35,10 +35,10 @@ pub record Kept {Form : Type 0} (d : Meaning Form) (m : Model) (s : Start) (f : 
   -- no present bound is below such a state
   pub bounds : (xs : List State) → Run m s xs → length xs ≡ suc t.steps → (l : Direction) → Answer (d.bounded l t.form) (λ b. dot (along l) (state xs t.steps) ≤ℤ b)
   -- each finding is the one that judging gives
-  pub judged : (n : ℕ) (k : KeepOut) → n < t.count → k ≡ slice_index_or ks n k → JudgedBy (λ j. d.bounded k.direction (form_at d m s f j)) k.threshold t.steps (get_or t.rows n blank).finding
+  pub judged : (n : ℕ) (k : KeepOut) → n < t.table.count → k ≡ slice_index_or ks n k → JudgedBy (λ j. d.bounded k.direction (form_at d m s f j)) k.threshold t.steps (slice_index_or t.table.rows n blank).finding
   -- a keep-out found clear is entered by no permitted run at any step so far
-  pub clear : (n : ℕ) (k : KeepOut) → n < t.count → k ≡ slice_index_or ks n k → (get_or t.rows n blank).finding ≡ Clear
+  pub clear : (n : ℕ) (k : KeepOut) → n < t.table.count → k ≡ slice_index_or ks n k → (slice_index_or t.table.rows n blank).finding ≡ Clear
       → (xs : List State) → Run m s xs → (j : ℕ) → j ≤ t.steps → Enters k xs j → ⊥
   -- one found open at a step is entered by none at an earlier step
-  pub open_since : (n : ℕ) (k : KeepOut) (since : ℕ) → n < t.count → k ≡ slice_index_or ks n k → (get_or t.rows n blank).finding ≡ Open since
+  pub open_since : (n : ℕ) (k : KeepOut) (since : ℕ) → n < t.table.count → k ≡ slice_index_or ks n k → (slice_index_or t.table.rows n blank).finding ≡ Open since
       → (xs : List State) → Run m s xs → (j : ℕ) → j < since → Enters k xs j → ⊥

@@ -1,8 +1,9 @@
 //! A tube from its opening to its end: watches, launch, a list of calls, finish.
 ghost use Rattle.std.specs.Prelude.{◌≡◌, ℕ, [], ◌∷◌, ◌++◌, take, IfOk, OnOk};
-ghost use Rattle.tube.specs.Calls.{Table, watched, watch_reply, watched_all, watch_replies, empty_table, begun, called, reply, after, replies as answers};
-ghost use Rattle.tube.specs.Flights.{Flight};
+ghost use Rattle.tube.specs.Calls.{watched, watch_reply, watched_all, watch_replies, begun, called, reply, after, replies as answers};
+ghost use Rattle.tube.specs.Flights.{flight_of};
 ghost use Rattle.tube.specs.Summaries.{summary_of};
+ghost use Rattle.tube.specs.Tables.{table_of, empty_table, ChangesOnlyTable};
 ghost use Rattle.tube.specs.Tightness.{TubeTight};
 ghost use Rattle.tube.specs.Promise.{Kept};
 
@@ -25,32 +26,25 @@ pub struct Followed {
 
 /// Watches one keep-out.
 fn watch_one<D: Domain>(tube: &mut Opened<D>, keep_out: &KeepOut) -> Reply
-    ensures table { record { count = tube.new.table.count; rows = tube.new.table.rows } ≡ watched (record { count = tube.old.table.count; rows = tube.old.table.rows }) keep_out.now }
-    ensures others { (tube.new.model ≡ tube.old.model) × (tube.new.start ≡ tube.old.start) × (tube.new.domain ≡ tube.old.domain) }
-    ensures reply { result ≡ watch_reply (record { count = tube.old.table.count; rows = tube.old.table.rows }) keep_out.now }
+    ensures table { table_of tube.new.table ≡ watched (table_of tube.old.table) keep_out.now }
+    ensures others { ChangesOnlyTable tube.old tube.new }
+    ensures reply { result ≡ watch_reply (table_of tube.old.table) keep_out.now }
 {
-    match tube.watch(keep_out) {
-        Ok(()) => Reply::Watched,
-        Err(fault) => Reply::Refused(fault),
-    }
+    tube.watch(keep_out)
+        .map_or_else(Reply::Refused, |()| Reply::Watched)
 }
 
 /// Answers one call.
 fn answer<D: Domain>(tube: &mut Launched<D>, call: Call) -> Reply
-    ensures flight { record { form = D.form tube.new.domain; steps = tube.new.steps; count = tube.new.table.count; rows = tube.new.table.rows } ≡ called D.sense tube.old.model (record { form = D.form tube.old.domain; steps = tube.old.steps; count = tube.old.table.count; rows = tube.old.table.rows }) call }
+    ensures flight { flight_of D.form tube.new
+        ≡ called D.sense tube.old.model (flight_of D.form tube.old) call }
     ensures model { tube.new.model ≡ tube.old.model }
-    ensures reply { result ≡ reply D.sense (record { form = D.form tube.old.domain; steps = tube.old.steps; count = tube.old.table.count; rows = tube.old.table.rows }) call }
+    ensures reply { result ≡ reply D.sense (flight_of D.form tube.old) call }
 {
     match call {
-        Call::Step => match tube.step() {
-            Ok(()) => Reply::Stepped,
-            Err(fault) => Reply::Refused(fault),
-        },
+        Call::Step => tube.step().map_or_else(Reply::Refused, |()| Reply::Stepped),
         Call::Bound(direction) => Reply::Bounded(tube.bound(&direction)),
-        Call::Finding(n) => match tube.finding(n) {
-            Ok(finding) => Reply::Found(finding),
-            Err(fault) => Reply::Refused(fault),
-        },
+        Call::Finding(n) => tube.finding(n).map_or_else(Reply::Refused, Reply::Found),
     }
 }
 
@@ -60,9 +54,11 @@ fn watch_all<D: Domain>(
     watches: &[KeepOut],
     replies: &mut Vec<Reply>,
 ) -> Result<(), AllocError>
-    ensures table { OnOk result (record { count = tube.new.table.count; rows = tube.new.table.rows } ≡ watched_all (record { count = tube.old.table.count; rows = tube.old.table.rows }) watches.now) }
-    ensures others { OnOk result ((tube.new.model ≡ tube.old.model) × (tube.new.start ≡ tube.old.start) × (tube.new.domain ≡ tube.old.domain)) }
-    ensures replies { OnOk result (replies.new.items ≡ replies.old.items ++ watch_replies (record { count = tube.old.table.count; rows = tube.old.table.rows }) watches.now) }
+    ensures table { OnOk result
+        (table_of tube.new.table ≡ watched_all (table_of tube.old.table) watches.now) }
+    ensures others { OnOk result (ChangesOnlyTable tube.old tube.new) }
+    ensures replies { OnOk result (replies.new.items
+        ≡ replies.old.items ++ watch_replies (table_of tube.old.table) watches.now) }
 {
     for keep_out in watches {
         let reply = watch_one(tube, keep_out);
@@ -77,8 +73,10 @@ fn answer_all<D: Domain>(
     calls: &[Call],
     replies: &mut Vec<Reply>,
 ) -> Result<(), AllocError>
-    ensures flight { OnOk result (record { form = D.form tube.new.domain; steps = tube.new.steps; count = tube.new.table.count; rows = tube.new.table.rows } ≡ after D.sense tube.old.model (record { form = D.form tube.old.domain; steps = tube.old.steps; count = tube.old.table.count; rows = tube.old.table.rows }) calls.now) }
-    ensures replies { OnOk result (replies.new.items ≡ replies.old.items ++ answers D.sense tube.old.model (record { form = D.form tube.old.domain; steps = tube.old.steps; count = tube.old.table.count; rows = tube.old.table.rows }) calls.now) }
+    ensures flight { OnOk result (flight_of D.form tube.new
+        ≡ after D.sense tube.old.model (flight_of D.form tube.old) calls.now) }
+    ensures replies { OnOk result (replies.new.items ≡ replies.old.items
+        ++ answers D.sense tube.old.model (flight_of D.form tube.old) calls.now) }
 {
     for call in calls {
         let reply = answer(tube, *call);

@@ -3,7 +3,6 @@
 ghost use Rattle.std.specs.Prelude.{◌≡◌};
 ghost use Rattle.tube.specs.Judging as spec;
 
-use super::finding::Finding;
 use super::row::Row;
 use super::table::KeepOutTable;
 use domains::domain::Domain;
@@ -13,9 +12,8 @@ use dynamics::direction::Direction;
 fn must_open<D: Domain>(domain: &D, row: Row) -> bool
     ensures { result ≡ spec.must_open (λ l. D.sense.bounded l (D.form domain.now)) row }
 {
-    match row.finding {
-        Finding::Open { .. } => return false,
-        Finding::Clear => {}
+    if !row.finding.is_clear() {
+        return false;
     }
     let Ok(direction) = Direction::new(row.entries) else {
         return true;
@@ -31,6 +29,7 @@ pub(crate) fn judge<D: Domain>(domain: &D, table: &mut KeepOutTable, step: usize
     ensures count { table.new.count ≡ table.old.count }
     ensures rows { table.new.rows ≡ spec.judged (λ l. D.sense.bounded l (D.form domain.now)) step table.old.count table.old.rows }
 {
+    // by number: one row is lent for change inside the table's function, as the project fixes
     for n in 0..table.count() {
         let row = table.row(n);
         if must_open(domain, row) {

@@ -1,7 +1,5 @@
 //! A launched tube: it steps, answers bounds and findings, and is finished.
-ghost use Rattle.std.specs.Prelude.{◌≡◌, ◌+◌, ◌-◌, ◌<◌, ◌≤◌, MatchResult, slice_index_or};
-ghost use Rattle.tube.specs.Faults.{fault_number};
-ghost use Rattle.tube.specs.Flights.{Flight, stepped, clear_count};
+ghost use Rattle.std.specs.Prelude.{◌≡◌, ◌<◌, ◌≤◌, MatchResult, slice_index_or};
 ghost use Rattle.tube.specs.Rows.{blank};
 
 use super::fault::Fault;
@@ -23,9 +21,16 @@ pub struct Launched<D> {
 }
 
 impl<D: Domain> Launched<D> {
+    ghost use Rattle.tube.specs.Flights.{flight_of, stepped};
+
     /// Advances the domain and judges the new step.
     pub fn step(&mut self) -> Result<(), Fault>
-        ensures flight { MatchResult result (λ _. (self.old.steps < 256) × (record { form = D.form self.new.domain; steps = self.new.steps; count = self.new.table.count; rows = self.new.table.rows } ≡ stepped D.sense self.old.model (record { form = D.form self.old.domain; steps = self.old.steps; count = self.old.table.count; rows = self.old.table.rows })) × (self.new.model ≡ self.old.model)) (λ e. (fault_number e ≡ 12) × (self.old.steps ≡ 256) × (self.new ≡ self.old)) }
+        ensures flight { MatchResult result
+            (λ _. (self.old.steps < 256)
+            × (flight_of D.form self.new
+            ≡ stepped D.sense self.old.model (flight_of D.form self.old))
+            × (self.new.model ≡ self.old.model))
+            (λ e. (e ≡ Fault.StepLimit) × (self.old.steps ≡ 256) × (self.new ≡ self.old)) }
     {
         if self.steps >= 256 {
             return Err(Fault::StepLimit);
@@ -45,16 +50,22 @@ impl<D: Domain> Launched<D> {
 
     /// What is found of keep-out `n`.
     pub fn finding(&self, n: usize) -> Result<Finding, Fault>
-        ensures { MatchResult result (λ f. (n < self.now.table.count) × (f ≡ (slice_index_or self.now.table.rows n blank).finding)) (λ e. (fault_number e ≡ 13) × (self.now.table.count ≤ n)) }
+        ensures { MatchResult result
+            (λ f. (n < self.now.table.count)
+            × (f ≡ (slice_index_or self.now.table.rows n blank).finding))
+            (λ e. (e ≡ Fault.NoKeepOut) × (self.now.table.count ≤ n)) }
     {
         self.table.finding(n).ok_or(Fault::NoKeepOut)
     }
 }
 
 impl<D: Domain + Drop> Launched<D> {
+    ghost use Rattle.tube.specs.Flights.{flight_of};
+    ghost use Rattle.tube.specs.Summaries.{summary_of};
+
     /// Ends the tube.
     pub fn finish(self) -> Summary
-        ensures { (result.steps ≡ self.steps) × (result.clear ≡ clear_count self.table.count self.table.rows) × (result.open ≡ self.table.count - clear_count self.table.count self.table.rows) }
+        ensures { result ≡ summary_of (flight_of D.form self) }
     {
         let clear = self.table.clear_count();
         Summary {

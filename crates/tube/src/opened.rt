@@ -1,8 +1,7 @@
 //! An opened tube: it names its keep-outs, and is launched.
-ghost use Rattle.std.specs.Prelude.{◌≡◌, ◌+◌, ◌<◌, MatchResult, slice_set};
-ghost use Rattle.tube.specs.Faults.{fault_number};
-ghost use Rattle.tube.specs.Flights.{launched};
-ghost use Rattle.tube.specs.Rows.{no_rows, row_of};
+ghost use Rattle.std.specs.Prelude.{◌≡◌, ◌<◌, MatchResult};
+ghost use Rattle.tube.specs.Flights.{flight_of, launched};
+ghost use Rattle.tube.specs.Tables.{table_of, empty_table, with_keep_out, ChangesOnlyTable};
 
 use super::fault::Fault;
 use super::judging::judge;
@@ -24,7 +23,8 @@ pub struct Opened<D> {
 impl<D: Domain> Opened<D> {
     /// A tube of a model from a start, over a domain, that watches nothing yet.
     pub fn open(model: Model, start: Start, domain: D) -> Opened<D>
-        ensures { (result.model ≡ model) × (result.start ≡ start) × (result.domain ≡ domain) × (result.table.count ≡ 0) × (result.table.rows ≡ no_rows) }
+        ensures { (result.model ≡ model) × (result.start ≡ start) × (result.domain ≡ domain)
+            × (table_of result.table ≡ empty_table) }
     {
         Opened {
             model,
@@ -36,19 +36,21 @@ impl<D: Domain> Opened<D> {
 
     /// Watches one keep-out more, numbered from 0.
     pub fn watch(&mut self, keep_out: &KeepOut) -> Result<(), Fault>
-        ensures table { MatchResult result (λ _. (self.old.table.count < 16) × (self.new.table.count ≡ self.old.table.count + 1) × (self.new.table.rows ≡ slice_set self.old.table.rows self.old.table.count (row_of keep_out.now))) (λ e. (fault_number e ≡ 11) × (self.old.table.count ≡ 16) × (self.new.table ≡ self.old.table)) }
-        ensures others { (self.new.model ≡ self.old.model) × (self.new.start ≡ self.old.start) × (self.new.domain ≡ self.old.domain) }
+        ensures table { MatchResult result
+            (λ _. (self.old.table.count < 16)
+            × (table_of self.new.table
+            ≡ with_keep_out (table_of self.old.table) keep_out.now))
+            (λ e. (e ≡ Fault.WatchLimit) × (self.old.table.count ≡ 16)
+            × (self.new.table ≡ self.old.table)) }
+        ensures others { ChangesOnlyTable self.old self.new }
     {
-        if self.table.add(keep_out) {
-            Ok(())
-        } else {
-            Err(Fault::WatchLimit)
-        }
+        self.table.add(keep_out)
     }
 
     /// Fills the domain and judges step 0.
     pub fn launch(self) -> Launched<D>
-        ensures flight { record { form = D.form result.domain; steps = result.steps; count = result.table.count; rows = result.table.rows } ≡ launched D.sense self.start (D.form self.domain) self.table.count self.table.rows }
+        ensures flight { flight_of D.form result
+            ≡ launched D.sense self.start (D.form self.domain) (table_of self.table) }
         ensures model { result.model ≡ self.model }
     {
         let Opened {

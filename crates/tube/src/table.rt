@@ -1,9 +1,8 @@
 //! The keep-outs that a tube watches, at most sixteen, and what is found of each.
-ghost use Rattle.std.specs.Prelude.{◌≡◌, ◌+◌, ◌<◌, ◌≤◌, not, T, [], ◌∷◌, ◌++◌, get_or, MatchOption, slice_index_or, slice_set};
-ghost use Rattle.tube.specs.Flights.{clear_count};
-ghost use Rattle.tube.specs.Judging.{is_clear};
-ghost use Rattle.tube.specs.Rows.{blank, no_rows, opened, row_of};
+ghost use Rattle.std.specs.Prelude.{◌≡◌, ◌+◌, ◌<◌, ◌≤◌, MatchOption, MatchResult, slice_index_or, slice_set, take};
+ghost use Rattle.tube.specs.Rows.{blank, opened};
 
+use super::fault::Fault;
 use super::finding::Finding;
 use super::row::Row;
 use dynamics::keep_out::KeepOut;
@@ -11,23 +10,22 @@ use dynamics::keep_out::KeepOut;
 /// The first `count` rows are watched, numbered from 0.
 #[derive(Clone, Copy)]
 pub struct KeepOutTable {
+    // an array with a count: the project fixes this form, in memory of a fixed size
     rows: [Row; 16],
     count: usize,
     ghost few: { count ≤ 16 },
 }
 
 impl KeepOutTable {
+    ghost use Rattle.tube.specs.Flights.{clear_count};
+    ghost use Rattle.tube.specs.Tables.{table_of, empty_table, with_keep_out};
+
     /// A new table watches nothing.
     pub fn new() -> KeepOutTable
-        ensures count { result.count ≡ 0 }
-        ensures rows { result.rows ≡ no_rows }
+        ensures { table_of result ≡ empty_table }
     {
         KeepOutTable {
-            rows: [Row {
-                entries: [0; 4],
-                threshold: 0,
-                finding: Finding::Clear,
-            }; 16],
+            rows: [Row::UNUSED; 16],
             count: 0,
         }
     }
@@ -39,22 +37,20 @@ impl KeepOutTable {
         self.count
     }
 
-    /// Watches one keep-out more, clear so far; false where sixteen stand, and the table is as it was.
-    pub fn add(&mut self, keep_out: &KeepOut) -> bool
-        ensures accepted { T result → (self.old.count < 16) × (self.new.count ≡ self.old.count + 1) × (self.new.rows ≡ slice_set self.old.rows self.old.count (row_of keep_out.now)) }
-        ensures refused { T (not result) → (self.old.count ≡ 16) × (self.new ≡ self.old) }
+    /// Watches one keep-out more, clear so far; refused where sixteen stand.
+    pub fn add(&mut self, keep_out: &KeepOut) -> Result<(), Fault>
+        ensures { MatchResult result
+            (λ _. (self.old.count < 16)
+            × (table_of self.new ≡ with_keep_out (table_of self.old) keep_out.now))
+            (λ e. (e ≡ Fault.WatchLimit) × (self.old.count ≡ 16) × (self.new ≡ self.old)) }
     {
         let count = self.count;
         if count >= 16 {
-            return false;
+            return Err(Fault::WatchLimit);
         }
-        self.rows[count] = Row {
-            entries: keep_out.direction().entries(),
-            threshold: keep_out.threshold(),
-            finding: Finding::Clear,
-        };
+        self.rows[count] = Row::new(keep_out);
         self.count = count + 1;
-        true
+        Ok(())
     }
 
     /// Row `n` of the table.
@@ -69,19 +65,25 @@ impl KeepOutTable {
     pub(crate) fn open_row(&mut self, n: usize, step: usize)
         requires { n < 16 }
         ensures count { self.new.count ≡ self.old.count }
-        ensures rows { self.new.rows ≡ slice_set self.old.rows n (opened step (slice_index_or self.old.rows n blank)) }
+        ensures rows { self.new.rows
+            ≡ slice_set self.old.rows n (opened step (slice_index_or self.old.rows n blank)) }
     {
         self.rows[n].open_at(step);
     }
 
+    /// The rows that are watched.
+    fn watched(&self) -> &[Row]
+        ensures { result.now ≡ take self.now.count self.now.rows }
+    {
+        &self.rows[..self.count]
+    }
+
     /// What is found of keep-out `n`, absent where the table has none of that number.
     pub fn finding(&self, n: usize) -> Option<Finding>
-        ensures { MatchOption result (self.now.count ≤ n) (λ f. (n < self.now.count) × (f ≡ (get_or self.now.rows n blank).finding)) }
+        ensures { MatchOption result (self.now.count ≤ n)
+            (λ f. (n < self.now.count) × (f ≡ (slice_index_or self.now.rows n blank).finding)) }
     {
-        if n >= self.count {
-            return None;
-        }
-        Some(self.rows[n].finding)
+        self.watched().get(n).map(|row| row.finding)
     }
 
     /// How many of the watched keep-outs are clear.
@@ -89,22 +91,9 @@ impl KeepOutTable {
         ensures value { result ≡ clear_count self.now.count self.now.rows }
         ensures few { result ≤ self.now.count }
     {
-        let mut clear = 0;
-        for n in 0..self.count {
-            if is_clear(self.rows[n].finding) {
-                clear += 1;
-            }
-        }
-        clear
-    }
-}
-
-/// Whether a finding is clear.
-fn is_clear(finding: Finding) -> bool
-    ensures { result ≡ is_clear finding }
-{
-    match finding {
-        Finding::Clear => true,
-        Finding::Open { .. } => false,
+        self.watched()
+            .iter()
+            .filter(|row| row.finding.is_clear())
+            .count()
     }
 }

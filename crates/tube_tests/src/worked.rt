@@ -1,8 +1,7 @@
 //! The worked plan: part 1 reaches 108 at step 0 and 110 at step 1.
 use super::tubes::beyond;
 use domains::interval_box::IntervalBox;
-use dynamics::direction::Direction;
-use samples::values::{worked_model, worked_start};
+use samples::values::{direction, worked_model, worked_start};
 use std::test::Fail;
 use tube::call::{Call, Reply};
 use tube::fault::Fault;
@@ -78,9 +77,7 @@ fn thresholds_about_a_bound(rt: HostRuntime) -> Result<(), Fail> {
 
 #[test]
 fn bounds_along_the_way(rt: HostRuntime) -> Result<(), Fail> {
-    let Ok(up) = Direction::new([1, 0, 0, 0]) else {
-        return Err(Fail::new("a direction was refused"));
-    };
+    let up = direction([1, 0, 0, 0])?;
     let calls = [Call::Bound(up), Call::Step, Call::Bound(up)];
     let told = follow(
         rt.alloc(),

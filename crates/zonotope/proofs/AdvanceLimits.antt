@@ -1,9 +1,9 @@
 -- The sizes of what an advance makes, before folding.
-use Rattle.std.proofs.Common.{ℕ, zero, suc, ◌+◌, ◌*◌, ◌/◌, ◌^◌, ◌<◌, ◌≤◌, Bool, true, false, List, [], ◌∷◌, ◌++◌, map, length, get_or, ℤ, pos, ◌+ℤ◌, ◌*ℤ◌, nat_abs, ◌≤ℤ◌, mul-le-mul_right, suc-mul, arith, length-append}
+use Rattle.std.proofs.Common.{◌≡◌, ℕ, zero, suc, ◌+◌, ◌*◌, ◌^◌, ◌<◌, ◌≤◌, Bool, true, false, List, [], ◌∷◌, ◌++◌, map, length, get_or, ℤ, pos, ◌+ℤ◌, ◌*ℤ◌, nat_abs, ◌≤ℤ◌, Some, None, Option, sym, ap, ◌∙◌, mul-le-mul_right, suc-mul, arith, length-append}
 use lib.ListN.{length-map}
 use borrow.Author.Differences.{ints}
 use Rattle.arith.specs.Rounding.{nearest}
-use Rattle.arith.specs.Sums.{total, listed, part}
+use Rattle.arith.specs.Sums.{listed, part}
 use Rattle.arith.specs.Products.{times_column}
 use Rattle.arith.proofs.Floor.{floored-size, residue_small}
 use Rattle.arith.proofs.Order.{triangle, abs-mul-le}
@@ -12,17 +12,18 @@ use Rattle.dynamics.specs.declared.model.Model.{Model}
 use Rattle.dynamics.specs.Values.{loop, push, middle, radius}
 use Rattle.dynamics.specs.Rows.{whole, allowed, allowance}
 use Rattle.dynamics.proofs.Views.{middle-size, radius-size}
+use Rattle.std.specs.Option.{option_map}
+use Rattle.zonotope.specs.declared.stored.Radii.{Radii}
 use Rattle.zonotope.specs.declared.stored.Stored.{Stored}
 use Rattle.zonotope.specs.Shape.{size, sizes}
 use Rattle.zonotope.specs.Advance.{moved, columns, images, middle_image, rounded, remainder, new_axis, advanced}
-use Rattle.zonotope.specs.Spread.{spread_advanced}
-use Rattle.zonotope.specs.Forms.{standing, shape_of}
-use Rattle.zonotope.specs.Ranges.{Counts, Entries, AllEntries}
-use Rattle.zonotope.proofs.Counts.{listed-entries, residues-size}
-use Rattle.zonotope.proofs.Folds.{Room}
+use Rattle.zonotope.specs.Spread.{advanced_part, spread_advanced}
+use Rattle.zonotope.specs.Forms.{standing, shape_of, parts_of}
+use Rattle.zonotope.specs.Ranges.{Entries, AllEntries, Roomy}
+use Rattle.zonotope.proofs.Counts.{listed-entries, listed-size, residues-size}
 use Rattle.zonotope.proofs.ImageLimits.{column-size}
 use Rattle.zonotope.specs.Spans.{spanned-size, size-listed}
-use Rattle.zonotope.proofs.StoredLimits.{stored_few, stored_entries, stored_centre}
+use Rattle.zonotope.proofs.StoredLimits.{stored_entries, stored_centre}
 
 -- ---- lists of vectors of bounded size
 all_append : (n : ℕ) (xs ys : List (List ℤ)) → AllEntries n xs → AllEntries n ys → AllEntries n (xs ++ ys)
@@ -52,24 +53,24 @@ unfolding images
 images-entries m t =
     all_append (2 ^ 52) (map (moved (loop m)) (standing t.generators)) _
     (all_map (2 ^ 52) (2 ^ 30) (moved (loop m)) (λ g h. listed-entries (times_column 4 (loop m) (part g)) (2 ^ 52) (λ i q. column-size 4 m.matrix (part g) (2 ^ 30) m.entered h i q)) (standing t.generators) (stored_entries t))
-    (all_append (2 ^ 52) (columns 4 (loop m) (size t.axis)) _
-    (columns-entries 4 (loop m) (size t.axis) m.entered (λ j q. (t.axial j q).1))
+    (all_append (2 ^ 52) (columns 4 (loop m) (size t.axis.parts)) _
+    (columns-entries 4 (loop m) (size t.axis.parts) m.entered (λ j q. (t.axis.limited j q).1))
     (columns-entries 2 (push m) (radius m) m.gained (λ j q. omega (arith, radius-size m j q))))
 
 pub images_few : (m : Model) (t : Stored) → length (images m (shape_of t)) ≤ 22
 unfolding images
 images_few m t =
     let gs = map (moved (loop m)) (standing t.generators) in
-    let a = columns 4 (loop m) (size t.axis) in
+    let a = columns 4 (loop m) (size t.axis.parts) in
     let b = columns 2 (push m) (radius m) in
     omega (
       arith,
       length-append gs (a ++ b),
       length-append a b,
       length-map (standing t.generators) (moved (loop m)),
-      length-listed 4 (λ j. listed 4 (λ i. pos (size t.axis j) *ℤ loop m i j)),
+      length-listed 4 (λ j. listed 4 (λ i. pos (size t.axis.parts j) *ℤ loop m i j)),
       length-listed 2 (λ j. listed 4 (λ i. pos (radius m j) *ℤ push m i j)),
-      stored_few t,
+      t.few,
     )
 
 -- ---- rounding
@@ -117,20 +118,23 @@ generators_size m t i q =
     omega (arith, sizes-rounded (images m (shape_of t)) i q (λ j. images-entries m t j i q), mul-le-mul_right (2 ^ 41 + 1) (images_few m t))
 
 -- there is room to fold
-spread_size : (m : Model) (t : Stored) (s : List ℤ) → Counts (2 ^ 30) s → (i : ℕ) → i < 4
-    → (total 4 (λ j. nat_abs (loop m i j) * size s j) + 4095) / 4096 + 2 * size (advanced m (shape_of t)).axis i ≤ 2 ^ 42
-spread_size m t s h i q = omega (arith, spanned-size (loop m i) (size s) (λ j r. m.entered i j q r) (λ j r. (h j r).1), axis-size m t i q)
+spread_size : (m : Model) (t : Stored) (w : Radii) (i : ℕ) → i < 4 → advanced_part (loop m) (advanced m (shape_of t)).axis w.parts i ≤ 2 ^ 42
+spread_size m t w i q = omega (arith, spanned-size (loop m i) (size w.parts) (λ j r. m.entered i j q r) (λ j r. (w.limited j r).1), axis-size m t i q)
 
 axis_count : (m : Model) (t : Stored) (i : ℕ) → i < 4 → pos 0 ≤ℤ part (advanced m (shape_of t)).axis i
 unfolding advanced
 axis_count m t i q = rw (listed_at 4 (λ i. pos (new_axis m (shape_of t) i)) (pos 0) i q) (omega (arith, ints))
 
-pub advanced-room : (m : Model) (t : Stored) (s : List ℤ) → Counts (2 ^ 30) s → Room (advanced m (shape_of t)) (spread_advanced (loop m) (advanced m (shape_of t)).axis s)
+pub axis-room : (m : Model) (t : Stored) → Roomy 1 (2 ^ 50) (advanced m (shape_of t)).axis (advanced m (shape_of t)).generators
+axis-room m t i q = (axis_count m t i q, omega (arith, axis-size m t i q, generators_size m t i q))
+
+pub spread-room : (m : Model) (t : Stored) (o : Option Radii) (s : List ℤ) → option_map (spread_advanced (loop m) (advanced m (shape_of t)).axis) (parts_of o) ≡ Some s → Roomy 2 (2 ^ 50) s (advanced m (shape_of t)).generators
 unfolding spread_advanced
-advanced-room m t s h =
-    record {
-      axis = λ i q. (axis_count m t i q, omega (arith, axis-size m t i q, generators_size m t i q));
-      spread = λ i q.
-          let f = λ (i : ℕ). (total 4 (λ j. nat_abs (loop m i j) * size s j) + 4095) / 4096 + 2 * size (advanced m (shape_of t)).axis i in
-          (rw (listed_at 4 (λ i. pos (f i)) (pos 0) i q) (omega (arith, ints)), rw (size-listed f i q) (omega (arith, spread_size m t s h i q, generators_size m t i q)));
-    }
+spread-room m t None s e = absurd cc
+spread-room m t (Some w) s e =
+    let f = advanced_part (loop m) (advanced m (shape_of t)).axis w.parts in
+    let same : listed 4 (λ i. pos (f i)) ≡ s = cc in
+    λ i q. (
+      rw (ap (λ (xs : List ℤ). part xs i) (sym same) ∙ listed_at 4 (λ i. pos (f i)) (pos 0) i q) (omega (arith, ints)),
+      rw (listed-size f s i (sym same) q) (omega (arith, spread_size m t w i q, generators_size m t i q)),
+    )

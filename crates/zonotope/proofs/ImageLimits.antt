@@ -1,5 +1,5 @@
 -- The images of vectors of bounded size, as the kernel computes them.
-use Rattle.std.proofs.Common.{◌≡◌, ℕ, ◌*◌, ◌^◌, ◌<◌, ◌≤◌, cond, eqb, List, length, set, ℤ, pos, ◌*ℤ◌, nat_abs, sym, ap, ◌∙◌, arith, w64, SFits, eq-eqb, ne_eqb}
+use Rattle.std.proofs.Common.{◌≡◌, ℕ, ◌*◌, ◌^◌, ◌<◌, ◌≤◌, cond, eqb, List, length, set, ℤ, pos, ◌*ℤ◌, nat_abs, sym, ap, ◌∙◌, subst, arith, lit<, w64, SFits, eq-eqb, ne_eqb}
 use lib.IntN.{*ℤ_comm}
 use Rattle.std.proofs.lemmas.Bool.{cond-true, cond-false}
 use Rattle.arith.specs.Sums.{part, entry, listed}
@@ -8,7 +8,9 @@ use Rattle.arith.proofs.Bits.{fits_abs}
 use Rattle.arith.proofs.Bridge.{listed_ext}
 use Rattle.arith.proofs.Dots.{sum-size}
 use Rattle.arith.proofs.Sums.{sum_ext, sum_single, set_at}
+use Rattle.dynamics.specs.declared.model.Model.{Model}
 use Rattle.dynamics.specs.Limits.{MatrixLimits}
+use Rattle.dynamics.specs.Values.{loop}
 
 -- each entry of a product with a vector of bounded size
 pub column-size : (n : ℕ) (a : List (List ℤ)) (x : ℕ → ℤ) (b : ℕ) → MatrixLimits n a → ((j : ℕ) → j < n → nat_abs (x j) ≤ b) → (i : ℕ) → i < 4
@@ -19,6 +21,13 @@ column-size n a x b h k i q = sum-size n (entry a i) x (2 ^ 20) b (λ j p. h i j
 pub column_is : (n : ℕ) (a : List (List ℤ)) (x : ℕ → ℤ) (b : ℕ) {r : List ℤ} → MatrixLimits n a → ((j : ℕ) → j < n → nat_abs (x j) ≤ b) → n * (2 ^ 20 * b) < 2 ^ 63
     → (((i : ℕ) → i < 4 → SFits w64 (times_column n (entry a) x i)) → r ≡ listed 4 (times_column n (entry a) x)) → r ≡ listed 4 (times_column n (entry a) x)
 column_is n a x b h k l e = e (λ i q. fits_abs (times_column n (entry a) x i) (n * (2 ^ 20 * b)) (column-size n a x b h k i q) l)
+
+-- the same over a model's own matrix
+pub loop-column_is : (m : Model) (x : List ℤ) {a : List (List ℤ)} {r : List ℤ} → ((j : ℕ) → j < 4 → nat_abs (part x j) ≤ 2 ^ 30) → a ≡ m.matrix
+    → (((i : ℕ) → i < 4 → SFits w64 (times_column 4 (entry a) (part x) i)) → r ≡ listed 4 (times_column 4 (entry a) (part x))) → r ≡ listed 4 (times_column 4 (loop m) (part x))
+loop-column_is m x {a} h e f =
+    column_is 4 a (part x) (2 ^ 30) (subst (MatrixLimits 4) (sym e) m.entered) h (lit< tt) f
+    ∙ ap (λ (xs : List (List ℤ)). listed 4 (times_column 4 (entry xs) (part x))) e
 
 -- ---- a vector of zeros but one
 module _ (n j : ℕ) (zs : List ℤ) (v : ℤ) (long : length zs ≡ n) (zeros : (k : ℕ) → k < n → part zs k ≡ pos 0) (inside : j < n) where

@@ -1,5 +1,3 @@
-pub mod Passed
-pub mod Removed
 pub mod ImageLimits
 pub mod StoredLimits
 pub mod Counts

@@ -1,32 +1,33 @@
 -- What a fold leaves: no sum grows past the room that it had.
 use Rattle.std.proofs.Common.{◌≡◌, ℕ, suc, ◌+◌, ◌-◌, ◌*◌, ◌<◌, ◌≤◌, Bool, true, false, eqb, List, [], length, get_or, ℤ, pos, refl, ap, arith}
+use Rattle.std.specs.List.{remove}
 use borrow.Author.Differences.{ints}
 use Rattle.arith.specs.Sums.{part, listed}
 use Rattle.arith.proofs.Sums.{listed_at}
 use Rattle.zonotope.specs.Shape.{Shape, size, sizes}
 use Rattle.zonotope.specs.Choice.{lightest}
-use Rattle.zonotope.specs.Fold.{without, grown, folded, folds, reduced}
+use Rattle.zonotope.specs.Fold.{grown, folded, folds, reduced}
 use Rattle.zonotope.specs.Spread
 use Rattle.zonotope.specs.Spread.{added, spread_folded, spread_charged, spreads}
 use Rattle.zonotope.specs.Ranges.{Roomy}
 use Rattle.zonotope.proofs.Counts.{listed-size}
 use Rattle.zonotope.proofs.Firsts.{folded-length}
-use Rattle.zonotope.specs.Grown.{sizes-without}
+use Rattle.zonotope.specs.Grown.{sizes-removed}
 
 -- a list written from f, where f and what is left stay within the room
 roomy_listed : (k n : ℕ) (f : ℕ → ℕ) (gs : List (List ℤ)) → ((i : ℕ) → i < 4 → f i + k * sizes gs i ≤ n) → Roomy k n (listed 4 (λ i. pos (f i))) gs
 roomy_listed k n f gs h i q =
     (rw (listed_at 4 (λ i. pos (f i)) (pos 0) i q) (omega (arith, ints)), rw (listed-size f (listed 4 (λ i. pos (f i))) i refl q) (h i q))
 
-pub roomy_grown : (n p : ℕ) (a : List ℤ) (gs : List (List ℤ)) → Roomy 1 n a gs → Roomy 1 n (grown a (get_or gs p [])) (without p gs)
+pub roomy_grown : (n p : ℕ) (a : List ℤ) (gs : List (List ℤ)) → Roomy 1 n a gs → Roomy 1 n (grown a (get_or gs p [])) (remove gs p)
 roomy_grown n p a gs h =
-    roomy_listed 1 n (λ i. size a i + size (get_or gs p []) i) (without p gs) (λ i q. omega (arith, (h i q).1, sizes-without gs p i))
+    roomy_listed 1 n (λ i. size a i + size (get_or gs p []) i) (remove gs p) (λ i q. omega (arith, (h i q).1, sizes-removed gs p i))
 
-pub roomy_charged : (n p q : ℕ) (s : List ℤ) (gs : List (List ℤ)) → Roomy 2 n s gs → Roomy 2 n (spread_folded q (get_or gs p []) s) (without p gs)
+pub roomy_charged : (n p q : ℕ) (s : List ℤ) (gs : List (List ℤ)) → Roomy 2 n s gs → Roomy 2 n (spread_folded q (get_or gs p []) s) (remove gs p)
 unfolding spread_folded
 roomy_charged n p q s gs h =
-    roomy_listed 2 n (λ i. size s i + added q (part (get_or gs p [])) i) (without p gs)
-    (λ i k. omega (arith, (h i k).1, sizes-without gs p i, at_most_twice (eqb i q) (size (get_or gs p []) i)))
+    roomy_listed 2 n (λ i. size s i + added q (part (get_or gs p [])) i) (remove gs p)
+    (λ i k. omega (arith, (h i k).1, sizes-removed gs p i, at_most_twice (eqb i q) (size (get_or gs p []) i)))
   where
     at_most_twice : (b : Bool) (m : ℕ) → Spread.charged b m ≤ 2 * m
     at_most_twice true m = omega arith

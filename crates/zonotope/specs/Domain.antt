@@ -1,5 +1,5 @@
 -- The zonotope as a domain: its condition, and what each call makes of it.
-use Rattle.std.specs.Prelude.{ℕ, ◌^◌, ◌<◌, ◌≤◌, Bool, true, false, List, [], length, ℤ, pos, Some, None, Option, nat_le, nat_lt, slice_index_or}
+use Rattle.std.specs.Prelude.{ℕ, ◌^◌, ◌<◌, ◌≤◌, Bool, true, false, List, [], ℤ, pos, Some, None, Option, nat_le, slice_get}
 use Rattle.arith.specs.Sums.{listed, every}
 use Rattle.dynamics.specs.declared.model.Model.{Model}
 use Rattle.dynamics.specs.declared.start.Start.{Start}
@@ -86,7 +86,7 @@ form_axis (Some t) = Some t.shape.axis
 -- generator j, absent past the last
 abbrev pub form_generator : ℕ → Form → Option (List ℤ)
 form_generator j None = None
-form_generator j (Some t) = kept_if (nat_lt j (length t.shape.generators)) (slice_index_or t.shape.generators j [])
+form_generator j (Some t) = slice_get t.shape.generators j
 
 abbrev pub form_spread : Form → Option (List ℤ)
 form_spread None = None

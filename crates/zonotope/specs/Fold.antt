@@ -1,14 +1,8 @@
 -- Generators given up for a larger axis part, while more than sixteen stand.
-use Rattle.std.specs.Prelude.{ℕ, zero, suc, ◌+◌, ◌-◌, List, [], ◌∷◌, length, ℤ, pos, slice_index_or}
+use Rattle.std.specs.Prelude.{ℕ, zero, suc, ◌+◌, ◌-◌, List, [], length, ℤ, pos, slice_index_or, remove}
 use Rattle.arith.specs.Sums.{listed}
 use Rattle.zonotope.specs.Shape.{Shape, size}
 use Rattle.zonotope.specs.Choice.{lightest}
-
--- the list without its element number p
-abbrev pub without : {A : Type 0} → ℕ → List A → List A
-without p [] = []
-without zero (x ∷ xs) = xs
-without (suc p) (x ∷ xs) = x ∷ without p xs
 
 -- four numbers of at least 0, each grown by a vector's |entry|
 abbrev pub grown : List ℤ → List ℤ → List ℤ
@@ -19,7 +13,7 @@ unfoldable pub folded : ℕ → Shape → Shape
 folded p z = record {
   centre = z.centre;
   axis = grown z.axis (slice_index_or z.generators p []);
-  generators = without p z.generators;
+  generators = remove z.generators p;
 }
 
 -- n folds, each of the lightest

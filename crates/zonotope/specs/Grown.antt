@@ -1,5 +1,5 @@
 -- Sums and lists with one more at the end, as a loop makes them.
-use Rattle.std.specs.Prelude.{◌≡◌, ℕ, zero, suc, ◌+◌, ◌<◌, ◌≤◌, List, [], ◌∷◌, ◌++◌, map, length, take, ℤ, slice_index_or, unsigned_abs, refl}
+use Rattle.std.specs.Prelude.{◌≡◌, ℕ, zero, suc, ◌+◌, ◌<◌, ◌≤◌, List, [], ◌∷◌, ◌++◌, map, length, take, ℤ, slice_index_or, remove, unsigned_abs, refl}
 use Rattle.std.proofs.Common.{sym, ap, ap₂, ◌∙◌, append_assoc, add-one, arith}
 use Rattle.std.proofs.lemmas.List.{take_more, map_more}
 use Rattle.arith.specs.Rounding.{residue}
@@ -7,7 +7,6 @@ use Rattle.arith.specs.Sums.{listed, part}
 use Rattle.arith.specs.Products.{dot}
 use Rattle.zonotope.specs.Shape.{size, reaches, sizes}
 use Rattle.zonotope.specs.Advance.{residues}
-use Rattle.zonotope.specs.Fold.{without}
 
 pub listed_last : {A : Type 0} (n : ℕ) (f : ℕ → A) → listed (suc n) f ≡ listed n f ++ (f n ∷ [])
 unfolding listed
@@ -47,10 +46,11 @@ pub reaches-next : (l : ℕ → ℤ) (gs : List (List ℤ)) (k : ℕ) → k < le
 reaches-next l gs k h = ap (reaches l) (take_more gs k [] h) ∙ reaches_more l (take k gs) (slice_index_or gs k [])
 
 -- ---- one generator out
-pub sizes-without : (gs : List (List ℤ)) (p i : ℕ) → sizes gs i ≡ size (slice_index_or gs p []) i + sizes (without p gs) i
-sizes-without [] p i = refl
-sizes-without (g ∷ gs) zero i = refl
-sizes-without (g ∷ gs) (suc p) i = let e = sizes-without gs p i in omega arith
+pub sizes-removed : (gs : List (List ℤ)) (p i : ℕ) → sizes gs i ≡ size (slice_index_or gs p []) i + sizes (remove gs p) i
+sizes-removed [] zero i = refl
+sizes-removed [] (suc p) i = refl
+sizes-removed (g ∷ gs) zero i = refl
+sizes-removed (g ∷ gs) (suc p) i = let e = sizes-removed gs p i in omega arith
 
 -- the first of them
 pub sizes-take : (gs : List (List ℤ)) (k i : ℕ) → sizes (take k gs) i ≤ sizes gs i

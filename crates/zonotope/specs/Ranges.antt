@@ -3,9 +3,12 @@ use Rattle.std.specs.Prelude.{ℕ, ◌+◌, ◌*◌, ◌<◌, ◌≤◌, List, [
 use Rattle.arith.specs.Sums.{part}
 use Rattle.zonotope.specs.Shape.{size, sizes}
 
--- four numbers of at least 0 and at most n
+-- k numbers of at least 0 and at most n, and four of them
+abbrev pub CountsOf : ℕ → ℕ → List ℤ → Type 0
+CountsOf k n a = (i : ℕ) → i < k → (pos 0 ≤ℤ part a i) × (size a i ≤ n)
+
 abbrev pub Counts : ℕ → List ℤ → Type 0
-Counts n a = (i : ℕ) → i < 4 → (pos 0 ≤ℤ part a i) × (size a i ≤ n)
+Counts n a = CountsOf 4 n a
 
 -- four entries within ±n
 abbrev pub Entries : ℕ → List ℤ → Type 0

@@ -1,6 +1,6 @@
 -- The spread: how far a zonotope's bound may have moved from the exact support number.
 use Rattle.std.specs.Prelude.{ℕ, zero, suc, ◌+◌, ◌-◌, ◌*◌, ◌/◌, Bool, true, false, List, [], length, ℤ, pos, ◌==◌, slice_index_or, unsigned_abs}
-use Rattle.arith.specs.Sums.{total, listed, part}
+use Rattle.arith.specs.Sums.{listed, part}
 use Rattle.arith.specs.Products.{spanned}
 use Rattle.dynamics.specs.declared.model.Model.{Model}
 use Rattle.dynamics.specs.Values.{loop}
@@ -10,8 +10,11 @@ use Rattle.zonotope.specs.Choice.{longest, lightest}
 use Rattle.zonotope.specs.Fold.{folded}
 
 -- z_i after an advance, before folding: down(sum of |A_ij| z_j + 4095) + 2 a_i, with the new axis part a
+abbrev pub advanced_part : (ℕ → ℕ → ℤ) → List ℤ → List ℤ → ℕ → ℕ
+advanced_part a new s i = (spanned (a i) (size s) + 4095) / 4096 + 2 * size new i
+
 unfoldable pub spread_advanced : (ℕ → ℕ → ℤ) → List ℤ → List ℤ → List ℤ
-spread_advanced a new s = listed 4 (λ i. pos ((total 4 (λ j. unsigned_abs (a i j) * size s j) + 4095) / 4096 + 2 * size new i))
+spread_advanced a new s = listed 4 (λ i. pos (advanced_part a new s i))
 
 -- what a fold of g adds to the spread of part i: 2 |g_i|, and 0 where part i is spared
 abbrev pub charged : Bool → ℕ → ℕ

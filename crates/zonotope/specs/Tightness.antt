@@ -1,5 +1,5 @@
 -- How far a bound may exceed the exact support number.
-use Rattle.std.specs.Prelude.{◌≡◌, ℕ, zero, suc, ◌+◌, ◌*◌, ◌/◌, ◌^◌, ◌<◌, ◌≤◌, Bool, true, false, List, [], ◌∷◌, ◌++◌, map, ℤ, pos, negsuc, ◌+ℤ◌, ◌-ℤ◌, ◌*ℤ◌, neg_ℤ, ◌≤ℤ◌, ◌==◌, slice_index_or, unsigned_abs, refl}
+use Rattle.std.specs.Prelude.{◌≡◌, ℕ, zero, suc, ◌+◌, ◌*◌, ◌/◌, ◌^◌, ◌<◌, ◌≤◌, Bool, true, false, List, [], ◌∷◌, ◌++◌, map, ℤ, pos, negsuc, ◌+ℤ◌, ◌-ℤ◌, ◌*ℤ◌, neg_ℤ, ◌≤ℤ◌, ◌==◌, slice_index_or, remove, unsigned_abs, refl}
 use Rattle.std.proofs.Common.{ap, ap₂, ◌∙◌, mul-add, mul-le-mul_left, mul_left_comm, mul_comm, mul_assoc, pow-suc, arith}
 use Rattle.std.proofs.Math.Dec.{eqb-zero-suc, eqb-suc-zero, eqb-suc-suc}
 use Rattle.std.proofs.lemmas.Int.{ints}
@@ -19,7 +19,7 @@ use Rattle.dynamics.specs.Support.{through, gusts, exact}
 use Rattle.dynamics.proofs.Step.{image-dot}
 use Rattle.zonotope.specs.Shape.{Shape, size, reaches, bound}
 use Rattle.zonotope.specs.Advance.{moved, images, rounded, residues, middle_image, new_axis, advanced}
-use Rattle.zonotope.specs.Fold.{without, folded}
+use Rattle.zonotope.specs.Fold.{folded}
 use Rattle.zonotope.specs.Spread.{spread_advanced, charged, added, spread_folded}
 use Rattle.zonotope.specs.Tight.{Tight}
 use Rattle.zonotope.specs.Spans.{spanned-le, spanned-add, spanned-listed}
@@ -155,10 +155,11 @@ tight_advance m t k z s h l =
     spread i = (total 4 (λ j. unsigned_abs (loop m i j) * size s j) + 4095) / 4096
 
 -- ---- a fold
-reaches-without : (l : ℕ → ℤ) (p : ℕ) (gs : List (List ℤ)) → reaches l gs ≡ unsigned_abs (dot l (part (slice_index_or gs p []))) + reaches l (without p gs)
-reaches-without l p [] = rw (dot-zero l) refl
-reaches-without l zero (g ∷ gs) = refl
-reaches-without l (suc p) (g ∷ gs) = let e = reaches-without l p gs in omega arith
+reaches-removed : (l : ℕ → ℤ) (p : ℕ) (gs : List (List ℤ)) → reaches l gs ≡ unsigned_abs (dot l (part (slice_index_or gs p []))) + reaches l (remove gs p)
+reaches-removed l zero [] = rw (dot-zero l) refl
+reaches-removed l (suc p) [] = rw (dot-zero l) refl
+reaches-removed l zero (g ∷ gs) = refl
+reaches-removed l (suc p) (g ∷ gs) = let e = reaches-removed l p gs in omega arith
 
 -- a sum of sizes against the size of the sum, where one part is spared
 spare : (n p : ℕ) (t : ℕ → ℤ) → total n (λ i. unsigned_abs (t i)) ≤ unsigned_abs (sum n t) + total n (added p t)
@@ -196,7 +197,7 @@ pub tight_fold : (m : Model) (t : Start) (k : ℕ) (z : Shape) (s : List ℤ) (p
     → Tight m t k z s → Tight m t k (folded place z) (spread_folded spared (slice_index_or z.generators place []) s)
 unfolding folded spread_folded
 tight_fold m t k z s place spared h l =
-    let e = reaches-without l place z.generators in
+    let e = reaches-removed l place z.generators in
     let e1 = spanned-listed l (λ i. size z.axis i + unsigned_abs (g i)) ∙ spanned-add l (size z.axis) (λ i. unsigned_abs (g i)) in
     let e2 = spanned-listed l (λ i. size s i + added spared g i) ∙ spanned-add l (size s) (added spared g) in
     let t1 = dot-size l g (λ i. unsigned_abs (g i)) (λ i q. omega arith) in

@@ -1,6 +1,7 @@
 //! One advance before folding: the images, rounded, with the axis part that takes up what rounding
 //! hides.
 ghost use Rattle.std.specs.Prelude.{◌≡◌, ◌+◌, ◌^◌, pos};
+ghost use Rattle.std.specs.Option.{option_map};
 ghost use Rattle.arith.specs.Sums.{part, listed};
 ghost use Rattle.dynamics.specs.Rows.{allowance};
 ghost use Rattle.dynamics.specs.Values.{loop};
@@ -8,7 +9,7 @@ ghost use Rattle.zonotope.specs.Shape.{size};
 ghost use Rattle.zonotope.specs.Advance as spec;
 ghost use Rattle.zonotope.specs.Spread.{spread_advanced};
 ghost use Rattle.zonotope.specs.Foldings.{folding_shape};
-ghost use Rattle.zonotope.specs.Forms.{shape_of};
+ghost use Rattle.zonotope.specs.Forms.{shape_of, parts_of};
 ghost use Rattle.zonotope.specs.Ranges.{Counts};
 
 use super::fold::Folding;
@@ -29,17 +30,16 @@ fn remainder(model: &Model, centre: [i64; 4], vectors: [i64; 4]) -> [i64; 4]
     grown(residues, model.allowances())
 }
 
-/// The shape before folding, and its spread, from an old spread.
-pub(crate) fn advanced(model: &Model, stored: &Stored, spread: [i64; 4]) -> Folding
-    requires { Counts (2 ^ 30) spread }
+/// The shape before folding, and its spread.
+pub(crate) fn advanced(model: &Model, stored: &Stored) -> Folding
     ensures shape { folding_shape result ≡ spec.advanced model.now (shape_of stored.now) }
-    ensures spread { result.spread ≡ spread_advanced (loop model.now) result.axis spread }
+    ensures spread { result.spread ≡ option_map (spread_advanced (loop model.now) result.axis) (parts_of stored.now.spread) }
 {
-    let (centre, centre_residues) = round(middle_image(model, stored.centre));
-    let images = images(model, stored);
-    let (generators, residues) = round_all(images.list());
-    let axis = absorbing_axis(remainder(model, centre_residues, residues));
-    let spread = carried(model.matrix(), axis, spread);
+    let (centre, centre_residues) = round(middle_image(model, stored));
+    let (generators, residues) = round_all(&images(model, stored));
+    let radii = absorbing_axis(remainder(model, centre_residues, residues));
+    let axis = radii.parts;
+    let spread = carried(model, radii, stored.spread);
     Folding {
         centre,
         axis,

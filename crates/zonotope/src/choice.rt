@@ -9,6 +9,7 @@ pub(crate) fn longest(generator: [i64; 4]) -> usize
     ensures value { result ≡ spec.longest generator }
     ensures first { spec.FirstGreatest 4 (size generator) result }
 {
+    // The loop counts places, since a place is what it answers.
     let mut best = 0;
     for i in 1..4 {
         if generator[i].unsigned_abs() > generator[best].unsigned_abs() {
@@ -23,9 +24,8 @@ fn weight(generator: [i64; 4]) -> u64
     requires { Entries (2 ^ 60) generator }
     ensures { result ≡ spec.weight generator }
 {
-    let first = generator[0].unsigned_abs() + generator[1].unsigned_abs();
-    let second = generator[2].unsigned_abs() + generator[3].unsigned_abs();
-    first + second - generator[longest(generator)].unsigned_abs()
+    let [a, b, c, d] = generator.map(i64::unsigned_abs);
+    a + b + c + d - a.max(b).max(c).max(d)
 }
 
 /// The place of the first generator of least weight.
@@ -35,6 +35,7 @@ pub(crate) fn lightest(generators: &[[i64; 4]]) -> usize
     ensures value { result ≡ spec.lightest generators.now }
     ensures first { spec.FirstLeast (length generators.now) (spec.weights generators.now) result }
 {
+    // The loop counts places, since a place is what it answers.
     let mut best = 0;
     let mut least = weight(generators[0]);
     for i in 1..generators.len() {

@@ -1,33 +1,38 @@
 //! How far a zonotope reaches: in a direction, and in each part.
-ghost use Rattle.std.specs.Prelude.{◌≡◌, ℕ, ◌+◌, ◌^◌, ◌<◌, ◌≤◌, pos};
-ghost use Rattle.arith.specs.Sums.{part, listed};
-ghost use Rattle.zonotope.specs.Shape.{size, sizes, reaches};
+ghost use Rattle.std.specs.Prelude.{◌≡◌, pos};
+ghost use Rattle.arith.specs.Sums.{listed};
+ghost use Rattle.dynamics.specs.Values.{along};
+ghost use Rattle.zonotope.specs.Shape.{reaches, extent};
 ghost use Rattle.zonotope.specs.Domain.{narrow};
-ghost use Rattle.zonotope.specs.Ranges.{Entries, Roomy};
+ghost use Rattle.zonotope.specs.Foldings.{folding_shape};
+ghost use Rattle.zonotope.specs.Forms.{standing};
 
+use super::fold::Folding;
 use super::sizes::grown;
-use arith::kernel::scalar_product;
+use super::stored::Stored;
+use arith::kernel::product;
+use arith::size::is_within;
+use dynamics::direction::Direction;
 
 /// The sum of the sizes of a direction's products with the generators.
-pub(crate) fn reach(direction: [i64; 4], generators: &[[i64; 4]]) -> i64
-    requires direction { Entries (2 ^ 20) direction }
-    requires generators { (i : ℕ) → i < 4 → sizes generators.now i ≤ 2 ^ 30 }
-    ensures { result ≡ pos (reaches (part direction) generators.now) }
+pub(crate) fn reach(direction: &Direction, stored: &Stored) -> i64
+    ensures { result ≡ pos (reaches (along direction.now) (standing stored.now.generators)) }
 {
+    let entries = direction.entries();
     let mut sum = 0;
-    for generator in generators {
-        sum += scalar_product(direction, *generator).abs();
+    for generator in stored.generators.as_slice() {
+        sum += product(entries, *generator).abs();
     }
     sum
 }
 
-/// By parts, numbers of at least 0 and the sizes of all generators' entries.
-pub(crate) fn extents(counts: [i64; 4], generators: &[[i64; 4]]) -> [i64; 4]
-    requires { Roomy 1 (2 ^ 60) counts generators.now }
-    ensures { result ≡ listed 4 (λ i. pos (size counts i + sizes generators.now i)) }
+/// By parts, the sizes of centre, axis part and all generators' entries.
+pub(crate) fn extents(folding: &Folding) -> [i64; 4]
+    ensures { result ≡ listed 4 (λ i. pos (extent (folding_shape folding.now) i)) }
 {
-    let mut sums = counts;
-    for generator in generators {
+    let mut sums = grown(folding.axis, folding.centre);
+    for generator in folding.generators.as_slice() {
+        // The borrow checker does not cover a call whose result is put into the array at once.
         let total = grown(sums, *generator);
         sums = total;
     }
@@ -38,10 +43,5 @@ pub(crate) fn extents(counts: [i64; 4], generators: &[[i64; 4]]) -> [i64; 4]
 pub(crate) fn is_narrow(counts: [i64; 4]) -> bool
     ensures { result ≡ narrow counts }
 {
-    for i in 0..4 {
-        if counts[i].unsigned_abs() > 1073741824 {
-            return false;
-        }
-    }
-    true
+    is_within(&counts, 1073741824)
 }

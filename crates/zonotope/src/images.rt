@@ -1,17 +1,17 @@
 //! The images of a zonotope's centre, generators and axis part under the loop, and of the gusts.
-ghost use Rattle.std.specs.Prelude.{◌≡◌, ◌+◌, ◌^◌, ◌≤◌, ◌++◌, map, length, ◌+ℤ◌};
+ghost use Rattle.std.specs.Prelude.{◌≡◌, ◌+◌, ◌^◌, ◌≤◌, ◌++◌, map, ◌+ℤ◌};
 ghost use Rattle.arith.specs.Sums.{part, entry, listed};
 ghost use Rattle.dynamics.specs.Limits.{MatrixLimits};
 ghost use Rattle.dynamics.specs.Runs.{image};
-ghost use Rattle.dynamics.specs.Values.{push, middle, radius};
+ghost use Rattle.dynamics.specs.Values.{loop, middle};
 ghost use Rattle.zonotope.specs.Shape.{size};
 ghost use Rattle.zonotope.specs.Advance as spec;
 ghost use Rattle.zonotope.specs.Forms.{standing, shape_of};
-ghost use Rattle.zonotope.specs.Ranges.{Counts, Entries, AllEntries};
+ghost use Rattle.zonotope.specs.Ranges.{CountsOf, Entries};
 
-use super::generators::Generators;
+use super::generators::{Generators, push};
 use super::stored::Stored;
-use arith::kernel::{gusts_times_column, matrix_times_column};
+use arith::kernel::times_column;
 use dynamics::model::Model;
 
 /// The sum of two vectors.
@@ -20,66 +20,45 @@ fn sum(a: [i64; 4], b: [i64; 4]) -> [i64; 4]
     requires second { Entries (2 ^ 61) b }
     ensures { result ≡ listed 4 (λ i. part a i +ℤ part b i) }
 {
-    let mut sums = [0; 4];
-    for i in 0..4 {
-        sums[i] = a[i] + b[i];
-    }
-    sums
+    std::array::from_fn(|i| a[i] + b[i])
 }
 
 /// The image of the centre under the gusts' centres.
-pub(crate) fn middle_image(model: &Model, centre: [i64; 4]) -> [i64; 4]
-    requires { Entries (2 ^ 30) centre }
-    ensures { result ≡ listed 4 (image model.now (part centre) (middle model.now)) }
+pub(crate) fn middle_image(model: &Model, stored: &Stored) -> [i64; 4]
+    ensures { result ≡ listed 4 (image model.now (part stored.now.centre) (middle model.now)) }
 {
     sum(
-        matrix_times_column(model.matrix(), centre),
-        gusts_times_column(model.gains(), model.centres()),
+        times_column(model.matrix(), stored.centre),
+        times_column(model.gains(), model.centres()),
     )
 }
 
 /// The loop matrix times each generator.
-fn moved(matrix: [[i64; 4]; 4], generators: &[[i64; 4]]) -> Generators
-    requires few { length generators.now ≤ 16 }
-    requires matrix { MatrixLimits 4 matrix }
-    requires entries { AllEntries (2 ^ 30) generators.now }
-    ensures list { standing result ≡ map (spec.moved (entry matrix)) generators.now }
-    ensures count { result.count ≡ length generators.now }
+fn moved(model: &Model, stored: &Stored) -> Generators
+    ensures list { standing result ≡ map (spec.moved (loop model.now)) (standing stored.now.generators) }
+    ensures few { result.len ≤ 16 }
 {
-    let mut moved = Generators::none();
-    for generator in generators {
-        moved.push(matrix_times_column(matrix, *generator));
+    let matrix = model.matrix();
+    let mut moved = Generators::new([0; 4]);
+    for generator in stored.generators.as_slice() {
+        push(&mut moved, times_column(matrix, *generator));
     }
     moved
 }
 
-/// Adds each part of the axis part times the loop matrix's column.
-fn add_axis_images(images: &mut Generators, matrix: [[i64; 4]; 4], axis: [i64; 4])
-    requires room { images.old.count ≤ 18 }
-    requires matrix { MatrixLimits 4 matrix }
-    requires axis { Counts (2 ^ 30) axis }
-    ensures list { standing images.new ≡ standing images.old ++ spec.columns 4 (entry matrix) (size axis) }
-    ensures count { images.new.count ≡ images.old.count + 4 }
+/// Adds each of some numbers of at least 0 times its column of a matrix.
+fn add_columns<const N: usize>(images: &mut Generators, matrix: [[i64; N]; 4], counts: [i64; N])
+    requires room { images.old.len + N ≤ 22 }
+    requires matrix { MatrixLimits N matrix }
+    requires counts { CountsOf N (2 ^ 30) counts }
+    ensures list { standing images.new ≡ standing images.old ++ spec.columns N (entry matrix.entry) (size counts.entry) }
+    ensures len { images.new.len ≡ images.old.len + N }
 {
-    for j in 0..4 {
-        let mut arm = [0; 4];
-        arm[j] = axis[j];
-        images.push(matrix_times_column(matrix, arm));
-    }
-}
-
-/// Adds each gust radius times the gust matrix's column.
-fn add_gust_images(images: &mut Generators, model: &Model)
-    requires { images.old.count ≤ 20 }
-    ensures list { standing images.new ≡ standing images.old ++ spec.columns 2 (push model.now) (radius model.now) }
-    ensures count { images.new.count ≡ images.old.count + 2 }
-{
-    let gains = model.gains();
-    let radii = model.radii();
-    for j in 0..2 {
-        let mut arm = [0; 2];
-        arm[j] = radii[j];
-        images.push(gusts_times_column(gains, arm));
+    // A number and its column have one place, which the loop counts.
+    for j in 0..N {
+        let mut arm = [0; N];
+        arm[j] = counts[j];
+        push(images, times_column(matrix, arm));
     }
 }
 
@@ -87,8 +66,8 @@ fn add_gust_images(images: &mut Generators, model: &Model)
 pub(crate) fn images(model: &Model, stored: &Stored) -> Generators
     ensures { standing result ≡ spec.images model.now (shape_of stored.now) }
 {
-    let mut images = moved(model.matrix(), stored.generators.list());
-    add_axis_images(&mut images, model.matrix(), stored.axis);
-    add_gust_images(&mut images, model);
+    let mut images = moved(model, stored);
+    add_columns(&mut images, model.matrix(), stored.axis.parts);
+    add_columns(&mut images, model.gains(), model.radii());
     images
 }

@@ -6,7 +6,9 @@ ghost use Rattle.zonotope.specs.Shape.{size};
 ghost use Rattle.zonotope.specs.Fold as spec;
 ghost use Rattle.zonotope.specs.Ranges.{Counts, Entries};
 
-use arith::kernel::scalar_product;
+use super::stored::Radii;
+use arith::kernel::product;
+use arith::size::sizes;
 
 /// Four numbers of at least 0, each grown by the size of a vector's entry.
 pub(crate) fn grown(counts: [i64; 4], vector: [i64; 4]) -> [i64; 4]
@@ -14,18 +16,14 @@ pub(crate) fn grown(counts: [i64; 4], vector: [i64; 4]) -> [i64; 4]
     requires entries { Entries (2 ^ 61) vector }
     ensures { result ≡ spec.grown counts vector }
 {
-    let mut sums = [0; 4];
-    for i in 0..4 {
-        sums[i] = counts[i] + vector[i].abs();
-    }
-    sums
+    std::array::from_fn(|i| counts[i] + vector[i].abs())
 }
 
-/// The sum of the sizes of a vector's entries, each times a number of at least 0.
-pub(crate) fn span(vector: [i64; 4], counts: [i64; 4]) -> i64
-    requires entries { Entries (2 ^ 20) vector }
-    requires counts { Counts (2 ^ 30) counts }
-    ensures { result ≡ pos (spanned (part vector) (size counts)) }
+/// How far a box of these radii reaches along a vector: the sum of the sizes of the vector's
+/// entries, each times its radius.
+pub(crate) fn span(vector: [i64; 4], radii: Radii) -> i64
+    requires { Entries (2 ^ 20) vector }
+    ensures { result ≡ pos (spanned (part vector) (size radii.parts)) }
 {
-    scalar_product(grown([0; 4], vector), counts)
+    product(sizes(vector), radii.parts)
 }

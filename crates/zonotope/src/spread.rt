@@ -1,27 +1,32 @@
 //! The spread after an advance and after a fold.
-ghost use Rattle.std.specs.Prelude.{◌≡◌, ◌^◌};
-ghost use Rattle.arith.specs.Sums.{entry};
-ghost use Rattle.dynamics.specs.Limits.{MatrixLimits};
+ghost use Rattle.std.specs.Prelude.{◌≡◌, ◌^◌, ◌<◌, pos};
+ghost use Rattle.std.specs.Option.{option_map};
+ghost use Rattle.dynamics.specs.Values.{loop};
 ghost use Rattle.zonotope.specs.Choice as choice;
 ghost use Rattle.zonotope.specs.Spread as spec;
+ghost use Rattle.zonotope.specs.Forms.{parts_of};
 ghost use Rattle.zonotope.specs.Ranges.{Counts, Entries};
 
 use super::choice::longest;
 use super::sizes::{grown, span};
+use super::stored::Radii;
 use arith::rounding::down;
+use dynamics::model::Model;
 
-/// The spread carried through the loop, with twice the new axis part.
-pub(crate) fn carried(matrix: [[i64; 4]; 4], axis: [i64; 4], spread: [i64; 4]) -> [i64; 4]
-    requires matrix { MatrixLimits 4 matrix }
-    requires axis { Counts (2 ^ 30) axis }
-    requires spread { Counts (2 ^ 30) spread }
-    ensures { result ≡ spec.spread_advanced (entry matrix) axis spread }
+/// A part of the spread carried through the loop, with twice the part of the new axis part.
+fn carried_part(model: &Model, axis: Radii, spread: Radii, i: usize) -> i64
+    requires { i < 4 }
+    ensures { result ≡ pos (spec.advanced_part (loop model.now) axis.parts spread.parts i) }
 {
-    let mut parts = [0; 4];
-    for i in 0..4 {
-        parts[i] = down(span(matrix[i], spread) + 4095) + 2 * axis[i];
-    }
-    parts
+    down(span(model.matrix()[i], spread) + 4095) + 2 * axis.parts[i]
+}
+
+/// The spread carried through the loop, with twice the new axis part; absent where it was.
+pub(crate) fn carried(model: &Model, axis: Radii, spread: Option<Radii>) -> Option<[i64; 4]>
+    ensures { result ≡ option_map (spec.spread_advanced (loop model.now) axis.parts) (parts_of spread) }
+{
+    let spread = spread?;
+    Some(std::array::from_fn(|i| carried_part(model, axis, spread, i)))
 }
 
 /// The spread after a generator was folded: charged twice its entries' sizes, save at the first

@@ -49,64 +49,39 @@ impl Zonotope {
     pub fn centre(&self) -> Option<[i64; 4]>
         ensures { result ≡ spec.form_centre (form_of self.now.stored) }
     {
-        let Some(stored) = self.stored else {
-            return None;
-        };
-        Some(stored.centre)
+        Some(self.stored?.centre)
     }
 
     /// The axis part, absent where it is unbounded.
     pub fn axis_part(&self) -> Option<[i64; 4]>
         ensures { result ≡ spec.form_axis (form_of self.now.stored) }
     {
-        let Some(stored) = self.stored else {
-            return None;
-        };
-        Some(stored.axis)
+        Some(self.stored?.axis.parts)
     }
 
     /// The generator at a place counted from 0, absent past the last and where it is unbounded.
     pub fn generator(&self, place: usize) -> Option<[i64; 4]>
         ensures { result ≡ spec.form_generator place (form_of self.now.stored) }
     {
-        let Some(stored) = self.stored else {
-            return None;
-        };
-        let generators = stored.generators.list();
-        if place < generators.len() {
-            Some(generators[place])
-        } else {
-            None
-        }
+        self.stored?.generators.get(place)
     }
 
     /// The spread, where it is present.
     pub fn spread(&self) -> Option<[i64; 4]>
         ensures { result ≡ spec.form_spread (form_of self.now.stored) }
     {
-        let Some(stored) = self.stored else {
-            return None;
-        };
-        let Some(spread) = stored.spread else {
-            return None;
-        };
-        Some(spread.parts)
+        Some(self.stored?.spread?.parts)
     }
 
     /// The spread's allowance in a direction, where the spread is present. After any number of
     /// advances since a fill the bound exceeds the exact support number by no more, and is never
     /// below it; that holds in whole directions of any size.
+    #[tactic(auto, using(crate::specs::Laws::tightness))]
     pub fn allowance(&self, direction: &Direction) -> Option<i64>
         ensures value { result ≡ spec.spread_answer (along direction.now) (spec.form_spread (form_of self.now.stored)) }
         ensures tight { Tightness }
     {
-        let Some(stored) = self.stored else {
-            return None;
-        };
-        let Some(spread) = stored.spread else {
-            return None;
-        };
-        Some(span(direction.entries(), spread.parts))
+        Some(span(direction.entries(), self.stored?.spread?))
     }
 }
 
@@ -126,17 +101,11 @@ impl Domain for Zonotope {
     }
 
     fn advance(&mut self, model: &Model) {
-        let Some(stored) = self.stored else {
-            return;
-        };
-        self.stored = step::advance(model, &stored);
+        self.stored = self.stored.and_then(|stored| step::advance(model, &stored));
     }
 
     fn bound(&self, direction: &Direction) -> Option<i64> {
-        let Some(stored) = self.stored else {
-            return None;
-        };
-        Some(step::bound(&stored, direction.entries()))
+        Some(step::bound(&self.stored?, direction))
     }
 
     fn cut(&mut self, _axis: SignedAxis, _limit: i64) {}

@@ -4,8 +4,8 @@ use zonotope::zonotope::Zonotope;
 
 /// Compares the generators with those expected, in order, and that no other stands.
 pub(crate) fn check_generators(rt: &impl Abort, zonotope: &Zonotope, expected: &[[i64; 4]]) {
-    for place in 0..expected.len() {
-        assert_eq!(rt; zonotope.generator(place), Some(expected[place]));
+    for (place, generator) in expected.iter().enumerate() {
+        assert_eq!(rt; zonotope.generator(place), Some(*generator));
     }
     assert_eq!(rt; zonotope.generator(expected.len()), None);
 }

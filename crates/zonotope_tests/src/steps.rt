@@ -2,10 +2,9 @@
 ghost use Rattle.std.specs.Prelude.{◌≡◌, [], ◌∷◌, pos, negsuc, IfOk};
 
 use super::shown::check_generators;
-use domains::axis::SignedAxis;
 use domains::domain::Domain;
 use dynamics::model::Model;
-use samples::values::{channel, direction, model, start, worked_model as worked};
+use samples::values::{axis, channel, direction, model, start, worked_model, worked_start};
 use std::test::Fail;
 use zonotope::zonotope::Zonotope;
 
@@ -28,12 +27,12 @@ fn dense() -> Result<Model, Fail>
 #[test]
 fn the_worked_plan(rt: HostRuntime) -> Result<(), Fail> {
     let mut zonotope = Zonotope::new();
-    zonotope.fill(&start([100, 0, 0, 0], [8, 8, 0, 0])?);
+    zonotope.fill(&worked_start()?);
     assert_eq!(rt; zonotope.centre(), Some([100, 0, 0, 0]));
     assert_eq!(rt; zonotope.axis_part(), Some([8, 8, 0, 0]));
     check_generators(&rt, &zonotope, &[]);
     assert_eq!(rt; zonotope.spread(), Some([0; 4]));
-    zonotope.advance(&worked()?);
+    zonotope.advance(&worked_model()?);
     assert_eq!(rt; zonotope.centre(), Some([100, 0, 0, 0]));
     assert_eq!(rt; zonotope.axis_part(), Some([1, 1, 0, 0]));
     check_generators(
@@ -110,11 +109,8 @@ fn a_fifth_step(rt: HostRuntime) -> Result<(), Fail> {
 #[test]
 fn a_cut_changes_nothing(rt: HostRuntime) -> Result<(), Fail> {
     let mut zonotope = Zonotope::new();
-    zonotope.fill(&start([100, 0, 0, 0], [8, 8, 0, 0])?);
-    let Some(axis) = SignedAxis::new(0) else {
-        return Err(Fail::new("the axis was refused"));
-    };
-    zonotope.cut(axis, 95);
+    zonotope.fill(&worked_start()?);
+    zonotope.cut(axis(0)?, 95);
     assert_eq!(rt; zonotope.bound(&direction([1, 0, 0, 0])?), Some(108));
     Ok(())
 }

@@ -1,4 +1,4 @@
-use Rattle.std.proofs.Common.{◌≡◌, ℕ, ◌-◌, Bool, true, false, T, List, [], ◌∷◌, length, take, drop, Ok, sym, refl, ap, ◌∙◌, arith}
+use Rattle.std.proofs.Common.{◌≡◌, ℕ, ◌-◌, List, [], ◌∷◌, length, take, drop, Ok, sym, ap, ◌∙◌, arith}
 use Rattle.std.proofs.lemmas.Slice.Eq.{slice_eq-Decides}
 use Rattle.std.proofs.lemmas.List.{take_at}
 use Rattle.plan.specs.Report.{told, refused_line}
@@ -8,10 +8,6 @@ use Rattle.report.specs.Reports.{Reports}
 use Rattle.report.specs.Tasks.{task}
 use Rattle.report_tests.proofs.agrees.Goals as goal
 use Rattle.std.proofs.lemmas.Bool.Decides.{Decides-eqb}
-
-true_from : (b : Bool) → T b → b ≡ true
-true_from true h = refl
-true_from false h = absurd h
 
 -- the bytes that a report put are those that it was compared with
 compared : (text page page' expected : List ℕ) (n : ℕ) → take (n - 0) page' ≡ expected → Reports text (λ W lines. Printed W lines page page' (Ok n)) → Reports text (λ W lines. bytes lines ≡ expected)
@@ -26,4 +22,4 @@ compared text page page' expected n e r = record {
         sym (take_at (bytes lines) (drop (length (bytes lines)) page) (n - 0) z) ∙ ap (take (n - 0)) (sym p) ∙ e
 
 pub returns-in-Ok : goal.returns-in-Ok
-returns-in-Ok c h = compared c.args.text.now _ c.report.new.page c.args.expected.now c.in-Ok.n ((slice_eq-Decides Decides-eqb _ _ _ c.eq.ensures).0 (true_from c.eq.result h)) c.in-Ok.ensures.printed
+returns-in-Ok c h = compared c.args.text.now _ c.report.new.page c.args.expected.now c.in-Ok.n ((slice_eq-Decides Decides-eqb _ _ _ c.eq.ensures).0 h) c.in-Ok.ensures.printed

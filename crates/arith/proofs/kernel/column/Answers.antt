@@ -4,8 +4,8 @@ use Rattle.arith.proofs.Bridge.{four-listed}
 use Rattle.arith.proofs.kernel.column.Goals as goal
 
 pub returns : goal.returns
-returns c =
-    let cell = λ (i : ℕ). entry c.args.a i c.args.j in
+returns g c =
+    let cell = λ (i : ℕ). entry c.args.m i c.args.j in
     let f0 : SFits w64 (cell 0) = search rules in
     let f1 : SFits w64 (cell 1) = search rules in
     let f2 : SFits w64 (cell 2) = search rules in

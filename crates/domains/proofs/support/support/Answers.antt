@@ -1,4 +1,4 @@
-use Rattle.std.proofs.Common.{◌≡◌, ◌+◌, ◌*◌, ◌^◌, List, ℤ, pos, ◌*ℤ◌, nat_abs, sym, ap, ◌∙◌, subst, ap₂, lit<, w64, SFits}
+use Rattle.std.proofs.Common.{◌≡◌, ◌+◌, ◌*◌, ◌^◌, List, ℤ, pos, ◌*ℤ◌, nat_abs, sym, ap, ◌∙◌, subst, ap₂, arith, lit<, w64, SFits}
 use Rattle.arith.specs.Sums.{part, listed}
 use Rattle.arith.specs.Products.{dot}
 use Rattle.arith.proofs.Bits.{back, back_is, fits_abs}
@@ -20,6 +20,6 @@ pub returns : goal.returns
 returns c =
     let l = c.args.direction in
     let u = c.args.limits.upper in
-    let e = gathered l u c.sizes.result c.sides.result c.sizes.ensures c.sides.ensures in
+    let e = gathered l u c.sizes.result c.sides.result (c.sizes.ensures.exact (λ i h. omega (arith, c.requires i h))) c.sides.ensures in
     let f : SFits w64 (support (part l) u) = fits_abs (support (part l) u) (4 * (2 ^ 22 * 2 ^ 30)) (support-size (part l) u (2 ^ 22) c.requires c.args.limits.small) (lit< tt) in
-    ap back (c.scalar_product.ensures.exact (subst (SFits w64) (sym e) f) ∙ e) ∙ back_is (support (part l) u) f
+    ap back (c.product.ensures.exact (subst (SFits w64) (sym e) f) ∙ e) ∙ back_is (support (part l) u) f

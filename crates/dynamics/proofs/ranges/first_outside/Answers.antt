@@ -1,10 +1,7 @@
-use Rattle.std.proofs.Common.{◌+◌, [], ◌++◌, drop, sym, ap, ◌∙◌, append-nil, add-zero, add_assoc}
+use Rattle.std.proofs.Common.{◌+◌, [], ◌++◌, drop, sym, ap, ◌∙◌, add_assoc}
 use Rattle.dynamics.specs.Ranges.{first_outside}
 use Rattle.dynamics.proofs.Places.{number_good, number_bad, numbers_end}
 use Rattle.dynamics.proofs.ranges.first_outside.Goals as goal
-
-pub loop-i-init : goal.loop-i-init
-loop-i-init c = simp (add-zero, append-nil)
 
 pub loop-i-preserved : goal.loop-i-preserved
 loop-i-preserved c =

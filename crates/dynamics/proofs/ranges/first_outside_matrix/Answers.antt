@@ -3,7 +3,7 @@ use Rattle.arith.specs.Sums.{entry}
 use Rattle.arith.proofs.Bits.{back, back_is}
 use Rattle.dynamics.specs.declared.ranges.Ranged.{Ranged}
 use Rattle.dynamics.specs.Ranges.{within, outside, first_outside, matrix_rows, joined}
-use Rattle.dynamics.proofs.Places.{nothing, number_good, number_bad, numbers_end, row_begins, rows_end, row_length, cell_number}
+use Rattle.dynamics.proofs.Places.{nothing, number_good, number_bad, row_begins, rows_end, row_length, cell_number}
 use Rattle.dynamics.proofs.ranges.first_outside_matrix.Goals as goal
 
 -- the number that was looked at is the one in row i and column j
@@ -34,19 +34,6 @@ loop-j-preserved c =
       c.loop-j.invariant.0,
       ap (λ k. first_outside k (drop (j + 1) (get_or g i []) ++ joined (drop (i + 1) g))) q
           ∙ sym (number_good (get_or g i []) (joined (drop (i + 1) g)) j (4 * i + j) (omega arith) e)
-          ∙ c.loop-j.invariant.1,
-    )
-
-pub rows-preserved : goal.rows-preserved
-rows-preserved c =
-    let g = matrix_rows c.args.matrix in
-    let i = c.rows.i in
-    let j = c.loop-j.j in
-    let n = row_length c.args.matrix i c.rows-test.true in
-    let q : 4 * (i + 1) ≡ 4 * i + j = omega arith in (
-      c.loop-j.invariant.0,
-      ap (λ k. first_outside k (joined (drop (i + 1) g))) q
-          ∙ sym (numbers_end (get_or g i []) (joined (drop (i + 1) g)) j (4 * i + j) (omega arith))
           ∙ c.loop-j.invariant.1,
     )
 

@@ -7,9 +7,9 @@ pub unreachable-requires : goal.unreachable-requires
 unreachable-requires c =
     let t = c.in_ok-threshold.threshold in
     let f : SFits w64 t = search rules in
-    let v = entries-kept c.args.a.now c.args.b.now c.args.c.now c.args.d.now c.in_ok-entries.entries (sym c.in_ok-entries.ensures) in
+    let v = entries-kept c.args.entries.a.now c.args.entries.b.now c.args.entries.c.now c.args.entries.d.now c.in_ok-entries.entries (sym c.in_ok-entries.ensures) in
     let h = within-kept 7 (2 ^ 52) c.args.threshold.now t (sym c.in_ok-threshold.ensures) in
-    let none = c.in-Err.ensures.limits.1 (v, subst (λ (z : ℤ). nat_abs z ≤ 2 ^ 52) (sym (back_is t f)) h) in
-    let some = c.in-Err.ensures.value in
+    let none = c.in_default.ensures.limits.1 (v, subst (λ (z : ℤ). nat_abs z ≤ 2 ^ 52) (sym (back_is t f)) h) in
+    let some = c.in_default.ensures.value in
     let z : ◌≡◌ {A = ℕ} 0 1 = cc in
     omega arith

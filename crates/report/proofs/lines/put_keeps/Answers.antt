@@ -17,27 +17,27 @@ unreachable-requires c = omega (arith, keep_none (kept_list c.args.keeps.now) c.
 pub returns-in_err-put_keep : goal.returns-in_err-put_keep
 returns-in_err-put_keep c =
     let ks = kept_list c.args.keeps.now in
-    let lines = told_keeps c.args.text.now ks c.args.found.now in
+    let lines = told_keeps ks c.args.found.now in
     let n = c.loop-n.n in
-    let e = keep_told c.args.text.now ks c.args.found.now n c.in-Some.keep _ _ c.in-Some.ensures c.part.ensures c.finding_in.ensures in
+    let e = keep_told ks c.args.found.now n c.in-Some.keep _ _ c.in-Some.ensures refl c.finding_in.ensures in
     let q = subst (λ (t : List ℕ). KeptOut c.loop-n.out.buf.now c.loop-n.out.len t c.put_keep.new.out.buf.now c.put_keep.new.out.len) e c.in_err-put_keep.ensures.line in
     let p = err_from_is_err_and c.from_residual.result c.from_residual.ensures.1 in
     let s = (keep_some ks n c.in-Some.keep c.in-Some.ensures).0 in
     rw p.1
     record {
       lent = c.in_err-put_keep.ensures.lent ∙ c.loop-n.invariant.1;
-      lines = not_put lines _ _ n _ _ c.loop-n.invariant.0 _ _ (omega (arith, keeps_length c.args.text.now ks c.args.found.now)) q;
+      lines = not_put lines _ _ n _ _ c.loop-n.invariant.0 _ _ (omega (arith, keeps_length ks c.args.found.now)) q;
     }
 
 pub loop-n-preserved : goal.loop-n-preserved
 loop-n-preserved c =
     let ks = kept_list c.args.keeps.now in
-    let lines = told_keeps c.args.text.now ks c.args.found.now in
+    let lines = told_keeps ks c.args.found.now in
     let n = c.loop-n.n in
-    let e = keep_told c.args.text.now ks c.args.found.now n c.in-Some.keep _ _ c.in-Some.ensures c.part.ensures c.finding_in.ensures in
+    let e = keep_told ks c.args.found.now n c.in-Some.keep _ _ c.in-Some.ensures refl c.finding_in.ensures in
     let q = subst (λ (t : List ℕ). Added c.loop-n.out.buf.now c.loop-n.out.len t c.put_keep.new.out.buf.now c.put_keep.new.out.len) e c.in_ok-put_keep.ensures.line in
     let s = (keep_some ks n c.in-Some.keep c.in-Some.ensures).0 in (
-      one-put lines _ _ n _ _ c.loop-n.invariant.0 _ _ (omega (arith, keeps_length c.args.text.now ks c.args.found.now)) q,
+      one-put lines _ _ n _ _ c.loop-n.invariant.0 _ _ (omega (arith, keeps_length ks c.args.found.now)) q,
       c.in_ok-put_keep.ensures.lent ∙ c.loop-n.invariant.1,
     )
 
@@ -46,5 +46,5 @@ returns c =
     let ks = kept_list c.args.keeps.now in
     record {
       lent = c.loop-n.invariant.1;
-      lines = all_put (told_keeps c.args.text.now ks c.args.found.now) _ _ c.loop-n.n _ _ (omega (arith, keeps_length c.args.text.now ks c.args.found.now, c.loop-n-test.false, c.requires.whole)) c.loop-n.invariant.0;
+      lines = all_put (told_keeps ks c.args.found.now) _ _ c.loop-n.n _ _ (omega (arith, keeps_length ks c.args.found.now, c.loop-n-test.false, c.requires.whole)) c.loop-n.invariant.0;
     }

@@ -6,5 +6,5 @@ use Rattle.report.proofs.lines.put_steps.Given as goal
 
 abbrev pub invariant-loop-step : goal.invariant-loop-step
 invariant-loop-step l =
-    Added l.initial.out.buf.now l.initial.out.len (bytes (take l.step (told_steps l.replies l.at l.steps))) l.out.buf.now l.out.len
+    Added l.initial.out.buf.now l.initial.out.len (bytes (take l.step (told_steps l.answers l.steps))) l.out.buf.now l.out.len
     × (l.out.buf.ghost_name ≡ l.initial.out.buf.ghost_name)

@@ -4,5 +4,5 @@ use Rattle.domains.specs.Axes.{axis}
 use Rattle.tube.specs.declared.call.Call.TheVariants.{Bound}
 use Rattle.report.proofs.questions.ask_bounds.Given as goal
 
-abbrev pub invariant-loop-index : goal.invariant-loop-index
-invariant-loop-index l = vec_items l.calls ≡ vec_items l.initial.calls ++ map (λ a. Bound (axis a)) (range_with_len 0 l.index)
+abbrev pub invariant-loop-axis : goal.invariant-loop-axis
+invariant-loop-axis l = vec_items l.calls ≡ vec_items l.initial.calls ++ map (λ a. Bound (axis a)) (range_with_len 0 l.axis-index)

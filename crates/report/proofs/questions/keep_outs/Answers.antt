@@ -1,5 +1,6 @@
 use Rattle.std.proofs.Common.{ap, ◌∙◌, arith}
-use Rattle.plan.specs.Keeps.{kept_list, keep_at}
+use Rattle.std.specs.List.{slice_get}
+use Rattle.plan.specs.Keeps.{kept_list}
 use Rattle.report.proofs.Listed.{keep_some, bare_turn, bare_end}
 use Rattle.report.proofs.questions.keep_outs.Goals as goal
 
@@ -7,7 +8,7 @@ pub loop-keep-preserved : goal.loop-keep-preserved
 loop-keep-preserved c =
     let ks = kept_list c.args.keeps.now in
     let p = c.in_ok-push.ensures in
-    bare_turn ks _ _ c.in-Some.keep _ _ (c.in-Some.ensures ∙ ap (keep_at ks) c.len.ensures) c.loop-keep.invariant p.items p.len
+    bare_turn ks _ _ c.in-Some.keep _ _ (c.in-Some.ensures ∙ ap (slice_get ks) c.len.ensures) c.loop-keep.invariant p.items p.len
 
 pub loop-keep-smaller : goal.loop-keep-smaller
 loop-keep-smaller c =
@@ -17,4 +18,4 @@ loop-keep-smaller c =
 pub returns : goal.returns
 returns c =
     let ks = kept_list c.args.keeps.now in
-    bare_end ks _ _ (c.in_default.ensures ∙ ap (keep_at ks) c.len.ensures) c.loop-keep.invariant
+    bare_end ks _ _ (c.in_default.ensures ∙ ap (slice_get ks) c.len.ensures) c.loop-keep.invariant

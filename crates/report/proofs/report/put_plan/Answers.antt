@@ -1,4 +1,5 @@
-use Rattle.std.proofs.Common.{◌≡◌, ℕ, List, length, Ok, Err, Result, sym, ap, ◌∙◌, subst, arith}
+use Rattle.std.proofs.Common.{◌≡◌, ℕ, List, length, drop, Ok, Err, Result, sym, ap, ◌∙◌, subst}
+use Rattle.std.proofs.lemmas.List.{take_rest}
 use Rattle.std.proofs.lemmas.Result.{err_from_is_err_and}
 use Rattle.tube.specs.declared.call.Reply.{Reply}
 use Rattle.plan.specs.declared.plan.Plan.{Plan}
@@ -7,46 +8,50 @@ use Rattle.plan.specs.declared.writer.Writer.{Writer}
 use Rattle.plan.specs.Keeps.{kept_list}
 use Rattle.report.specs.Pages.{PutsAll}
 use Rattle.report.specs.Replies.{Limited, told_lines}
-use Rattle.report.proofs.Reported.{replies_limited, replies-length, lines_are}
+use Rattle.report.proofs.Reported.{answers_limited, answers-length, lines_are}
 use Rattle.report.proofs.report.put_plan.Goals as goal
 
--- lines that were put by replies and a place, by what these are equal to
-put_same : (text : List ℕ) (p : Plan) {rs rs' : List Reply} {at at' : ℕ} {lines : List (List ℕ)} → rs ≡ rs' → at ≡ at' → told_lines text (kept_list p.keeps) rs' at' p.steps.count ≡ lines
-    → (before after : Writer) (r : Result (Unit {0}) Full) → PutsAll (told_lines text (kept_list p.keeps) rs at p.steps.count) before after r → PutsAll lines before after r
-put_same text p e q l before after r h =
-    subst (λ (ls : List (List ℕ)). PutsAll ls before after r) ((λ i. told_lines text (kept_list p.keeps) (e i) (q i) p.steps.count) ∙ l) h
+-- lines that were put by answers, by what these are equal to
+put_same : (p : Plan) {rs rs' : List Reply} {lines : List (List ℕ)} → rs ≡ rs' → told_lines (kept_list p.keeps) rs' p.steps.count ≡ lines
+    → (before after : Writer) (r : Result (Unit {0}) Full) → PutsAll (told_lines (kept_list p.keeps) rs p.steps.count) before after r → PutsAll lines before after r
+put_same p e l before after r h =
+    subst (λ (ls : List (List ℕ)). PutsAll ls before after r) (ap (λ (rs : List Reply). told_lines (kept_list p.keeps) rs p.steps.count) e ∙ l) h
+
+-- the answers, by where the replies to the watches end
+answers_from : {rs rs' : List Reply} {at at' : ℕ} → rs ≡ rs' → at ≡ at' → drop at rs ≡ drop at' rs'
+answers_from e q = λ i. drop (q i) (e i)
 
 pub put_lines-requires : goal.put_lines-requires
 put_lines-requires g c =
-    let e = c.as_slice.ensures.value ∙ c.in_ok-replies.ensures.list in
+    let e = take_rest c.deref.result.now c.in_ok-replies.replies.at ∙ answers_from (c.deref.ensures.value ∙ c.in_ok-replies.ensures.list) c.in_ok-replies.ensures.at in
     let laws = g.met.D.Domain.lawful in
     let f = g.D.Domain.form c.args.domain in
     let fits = g.met.D.Domain.kept c.args.domain in
     record {
       room = c.requires.room;
-      whole = omega (arith, replies-length laws f fits c.args.text.now c.args.plan.now, c.in_ok-replies.ensures.at, ap length e);
-      limited = subst Limited (sym e) (replies_limited laws f fits c.args.text.now c.args.plan.now);
+      whole = answers-length laws f fits c.args.plan.now ∙ ap length (sym e);
+      limited = subst Limited (sym e) (answers_limited laws f fits c.args.plan.now);
     }
 
--- the lines of the replies are those of the report
+-- the lines of the answers are those of the report
 pub returns-in_err-put_lines : goal.returns-in_err-put_lines
 returns-in_err-put_lines g c =
-    let e = c.as_slice.ensures.value ∙ c.in_ok-replies.ensures.list in
+    let e = take_rest c.deref.result.now c.in_ok-replies.replies.at ∙ answers_from (c.deref.ensures.value ∙ c.in_ok-replies.ensures.list) c.in_ok-replies.ensures.at in
     let f = g.D.Domain.form c.args.domain in
-    let l = lines_are g.met.D.Domain.lawful f (g.met.D.Domain.kept c.args.domain) c.args.text.now c.args.plan.now in
+    let l = lines_are g.met.D.Domain.lawful f (g.met.D.Domain.kept c.args.domain) c.args.plan.now in
     let p = err_from_is_err_and c.from_residual-in_err-put_lines.result c.from_residual-in_err-put_lines.ensures.1 in
     rw (p.1, p.2)
     record {
       lent = c.in_err-put_lines.ensures.lent;
-      lines = put_same c.args.text.now c.args.plan.now e c.in_ok-replies.ensures.at l c.args.out.now c.put_lines.new.out (Err c.in_err-put_lines.field-0.0) c.in_err-put_lines.ensures.lines;
+      lines = put_same c.args.plan.now e l c.args.out.now c.put_lines.new.out (Err c.in_err-put_lines.field-0.0) c.in_err-put_lines.ensures.lines;
     }
 
 pub returns : goal.returns
 returns g c =
-    let e = c.as_slice.ensures.value ∙ c.in_ok-replies.ensures.list in
+    let e = take_rest c.deref.result.now c.in_ok-replies.replies.at ∙ answers_from (c.deref.ensures.value ∙ c.in_ok-replies.ensures.list) c.in_ok-replies.ensures.at in
     let f = g.D.Domain.form c.args.domain in
-    let l = lines_are g.met.D.Domain.lawful f (g.met.D.Domain.kept c.args.domain) c.args.text.now c.args.plan.now in
+    let l = lines_are g.met.D.Domain.lawful f (g.met.D.Domain.kept c.args.domain) c.args.plan.now in
     record {
       lent = c.in_ok-put_lines.ensures.lent;
-      lines = put_same c.args.text.now c.args.plan.now e c.in_ok-replies.ensures.at l c.args.out.now c.put_lines.new.out (Ok c.in_ok-put_lines.field-0) c.in_ok-put_lines.ensures.lines;
+      lines = put_same c.args.plan.now e l c.args.out.now c.put_lines.new.out (Ok c.in_ok-put_lines.field-0) c.in_ok-put_lines.ensures.lines;
     }

@@ -1,4 +1,4 @@
-use Rattle.std.proofs.Common.{◌≤◌, length, Err, ap, ◌∙◌, subst}
+use Rattle.std.proofs.Common.{◌≤◌, length, Ok, Err, ap, ◌∙◌, subst}
 use Rattle.std.proofs.lemmas.Result.{err_from_is_err_and}
 use Rattle.domains.specs.BoxForms.{limits_of}
 use Rattle.domains.specs.declared.interval_box.IntervalBox.{IntervalBox}
@@ -29,6 +29,20 @@ returns-in_err-put_refusal-in-Err c =
       law = subst (Answers text) i.value i.law;
     }
 
+pub returns-in_ok-put_refusal-in-Err : goal.returns-in_ok-put_refusal-in-Err
+returns-in_ok-put_refusal-in-Err c =
+    let text = c.args.text.now in
+    let e = c.in-Err.refusal in
+    let i = c.in-Err.ensures in
+    let u = c.in_ok-put_refusal-in-Err.field-0 in
+    let line = subst (λ t. Puts (refused_line t) c.args.out.now c.put_refusal.new.out (Ok u)) c.told.ensures c.in_ok-put_refusal-in-Err.ensures.line in
+    record {
+      lent = c.in_ok-put_refusal-in-Err.ensures.lent;
+      lines = of_refusal text (λ W lines. PutsTask W lines c.args.out.now c.put_refusal.new.out (Ok u)) e i.law i.value (one_line ⊥ (refused_line (told e)) c.args.out.now c.put_refusal.new.out (Ok u) c.requires.room line);
+      short = refusal_fits text e i.law i.value (subst (λ t. length (refused_line t) ≤ 92) c.told.ensures c.in_ok-put_refusal-in-Err.ensures.short);
+      law = subst (Answers text) i.value i.law;
+    }
+
 pub returns-in-Ok : goal.returns-in-Ok
 returns-in-Ok c =
     let text = c.args.text.now in
@@ -39,7 +53,7 @@ returns-in-Ok c =
     record {
       lent = c.put_plan.ensures.lent;
       lines = of_plan text (λ W lines. PutsTask W lines c.args.out.now c.put_plan.new.out c.put_plan.result) plan i.law i.value
-          (subst (λ (f : Stack). PutsTask (Unit {0}) (lines_over stack f (plan_task text plan)) c.args.out.now c.put_plan.new.out c.put_plan.result) (λ k. (left k, right k)) c.put_plan.ensures.lines);
+          (subst (λ (f : Stack). PutsTask (Unit {0}) (lines_over stack f (plan_task plan)) c.args.out.now c.put_plan.new.out c.put_plan.result) (λ k. (left k, right k)) c.put_plan.ensures.lines);
       short = plan_fits text plan i.law i.value;
       law = subst (Answers text) i.value i.law;
     }

@@ -1,5 +1,5 @@
 use Rattle.std.proofs.Common.{◌≡◌, vec_len}
 use Rattle.trials.proofs.case.axes.Given as goal
 
-abbrev pub invariant-loop-index : goal.invariant-loop-index
-invariant-loop-index l = vec_len l.directions ≡ l.index
+abbrev pub invariant-loop-axis : goal.invariant-loop-axis
+invariant-loop-axis l = vec_len l.directions ≡ l.axis-index

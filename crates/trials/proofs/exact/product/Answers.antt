@@ -1,26 +1,32 @@
-use Rattle.std.proofs.Common.{ℕ, ◌*ℤ◌, w64, SFits, rules}
+use Rattle.std.proofs.Common.{◌≡◌, ℕ, length, pos, ◌+ℤ◌, ◌*ℤ◌, sym, ap, ◌∙◌, ap₂, arith, w64, SFits, rules}
+use Rattle.std.proofs.lemmas.List.{length_push}
+use Rattle.std.proofs.lemmas.Slice.Zip.{zip_turn, zip_end}
 use mir.Syntax.{w128}
-use Rattle.arith.specs.Sums.{part}
-use Rattle.trials.proofs.Wide.{is_as, term_is, four_summed}
+use Rattle.arith.specs.Sums.{part, sum}
+use Rattle.arith.proofs.Bits.{back_is}
+use Rattle.trials.proofs.Wide.{wide_is, sum_more}
 use Rattle.trials.proofs.exact.product.Goals as goal
 
+pub loop-entry-init : goal.loop-entry-init
+unfolding sum
+loop-entry-init g c = search rules
+
+pub loop-entry-preserved : goal.loop-entry-preserved
+loop-entry-preserved g c =
+    let at = zip_turn c.args.l c.args.x c.loop-entry.yielded c.into_iter-entry-iterator.result c.loop-entry.entry-iterator c.next.new.self c.next.result (cc) (cc) c.loop-entry.yielded_by _ c.in-Some.is c.next.ensures.steps in
+    let f : SFits w128 c.in_ok-sum.sum = search rules in
+    let h : SFits w128 c.in_ok-checked_mul.field-0 = search rules in
+    let p : SFits w128 c.from.result = search rules in
+    let a : SFits w128 c.in-Some.entry.now = search rules in
+    let b : SFits w64 c.in-Some.part.now = search rules in
+    wide_is _ f ∙ c.in_ok-sum.ensures.1
+    ∙ ap₂ ◌+ℤ◌ c.loop-entry.invariant (wide_is _ h ∙ c.in_ok-checked_mul.ensures.1 ∙ ap₂ ◌*ℤ◌ (wide_is _ a ∙ at.2 (pos 0)) (wide_is _ p ∙ c.from.ensures ∙ back_is _ b ∙ at.3 (pos 0)))
+    ∙ sym (sum_more (length c.loop-entry.yielded) _ (λ i. part c.args.l i *ℤ part c.args.x i) (length_push c.loop-entry.yielded _))
+
 pub returns : goal.returns
-returns c =
-    let l = part c.args.l in
-    let x = part c.args.x in
-    let l0 : SFits w128 (l 0) = search rules in
-    let l1 : SFits w128 (l 1) = search rules in
-    let l2 : SFits w128 (l 2) = search rules in
-    let l3 : SFits w128 (l 3) = search rules in
-    let x0 : SFits w64 (x 0) = search rules in
-    let x1 : SFits w64 (x 1) = search rules in
-    let x2 : SFits w64 (x 2) = search rules in
-    let x3 : SFits w64 (x 3) = search rules in
-    let z0 : SFits w128 c.in_ok-first.first = search rules in
-    let z1 : SFits w128 c.in_ok-second.second = search rules in
-    let z2 : SFits w128 c.in_ok-third.third = search rules in
-    let z3 : SFits w128 c.in_ok-fourth.fourth = search rules in
-    is_as c.sum_of.result _ _ c.sum_of.ensures
-    (four_summed (λ (i : ℕ). l i *ℤ x i)
-    (term_is c.in_ok-first.ensures l0 x0 z0) (term_is c.in_ok-second.ensures l1 x1 z1)
-    (term_is c.in_ok-third.ensures l2 x2 z2) (term_is c.in_ok-fourth.ensures l3 x3 z3))
+returns g c =
+    let l : length c.args.l ≡ g.row.N = search rules in
+    let x : length c.args.x ≡ g.row.N = search rules in
+    let end = zip_end c.args.l c.args.x c.loop-entry.yielded c.into_iter-entry-iterator.result c.loop-entry.entry-iterator c.next.new.self c.next.result (cc) (cc) c.loop-entry.yielded_by c.in-None.is c.next.ensures.steps in
+    let n : length c.loop-entry.yielded ≡ g.row.N = omega (arith, end) in
+    c.loop-entry.invariant ∙ ap (λ (n : ℕ). sum n (λ i. part c.args.l i *ℤ part c.args.x i)) n

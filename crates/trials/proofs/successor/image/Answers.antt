@@ -7,34 +7,34 @@ use Rattle.dynamics.specs.Runs.{image}
 use Rattle.dynamics.specs.Values.{loop, push}
 use Rattle.trials.proofs.Images.{Added, turned_size, pushed_size, turned_is, pushed_is, part-added}
 use Rattle.trials.proofs.successor.image.Goals as goal
-use Rattle.trials.proofs.successor.image.Goals.{After-gusts_times_column-pushed}
+use Rattle.trials.proofs.successor.image.Goals.{After-times_column-pushed}
 
-all : (c : After-gusts_times_column-pushed) (i : ℕ) → i < 4
-    → Added (part c.matrix_times_column-turned.result i) (part c.gusts_times_column-pushed.result i) (image c.args.model.now (part c.args.x) (part c.args.gusts) i)
+all : (c : After-times_column-pushed) (i : ℕ) → i < 4
+    → Added (part c.times_column-turned.result i) (part c.times_column-pushed.result i) (image c.args.model.now (part c.args.x) (part c.args.gusts) i)
 all c =
     let m = c.args.model.now in
     let x = c.args.x in
     let d = c.args.gusts in
     part-added _ _ (times_column 4 (loop m) (part x)) (times_column 2 (push m) (part d))
-    (turned_is m x c.matrix.ensures c.requires.near c.matrix_times_column-turned.ensures.exact)
-    (pushed_is m d c.gains.ensures c.requires.calm c.gusts_times_column-pushed.ensures.exact)
+    (turned_is m x c.matrix.ensures c.requires.near c.times_column-turned.ensures.exact)
+    (pushed_is m d c.gains.ensures c.requires.calm c.times_column-pushed.ensures.exact)
     (turned_size m x c.requires.near) (pushed_size m d c.requires.calm)
 
 pub overflow_add-result : goal.overflow_add-result
-overflow_add-result c = (all (goal.at.overflow_add-result c).After-gusts_times_column-pushed 0 (lit< tt)).fits
+overflow_add-result c = (all (goal.at.overflow_add-result c).After-times_column-pushed 0 (lit< tt)).fits
 
 pub overflow_add-result-2 : goal.overflow_add-result-2
-overflow_add-result-2 c = (all (goal.at.overflow_add-result-2 c).After-gusts_times_column-pushed 1 (lit< tt)).fits
+overflow_add-result-2 c = (all (goal.at.overflow_add-result-2 c).After-times_column-pushed 1 (lit< tt)).fits
 
 pub overflow_add-result-3 : goal.overflow_add-result-3
-overflow_add-result-3 c = (all (goal.at.overflow_add-result-3 c).After-gusts_times_column-pushed 2 (lit< tt)).fits
+overflow_add-result-3 c = (all (goal.at.overflow_add-result-3 c).After-times_column-pushed 2 (lit< tt)).fits
 
 pub overflow_add-result-4 : goal.overflow_add-result-4
-overflow_add-result-4 c = (all (goal.at.overflow_add-result-4 c).After-gusts_times_column-pushed 3 (lit< tt)).fits
+overflow_add-result-4 c = (all (goal.at.overflow_add-result-4 c).After-times_column-pushed 3 (lit< tt)).fits
 
 pub returns : goal.returns
 returns c =
-    let a = all (goal.at.returns c).After-gusts_times_column-pushed in
+    let a = all (goal.at.returns c).After-times_column-pushed in
     let f = image c.args.model.now (part c.args.x) (part c.args.gusts) in
     let a0 = a 0 (lit< tt) in
     let a1 = a 1 (lit< tt) in

@@ -1,4 +1,4 @@
-use Rattle.std.proofs.Common.{◌≡◌, ℕ, Bool, T, List, ℤ, pos, IfSome, Some, None, Option, sym, ap, ◌∙◌, subst, w64, SFits, rules}
+use Rattle.std.proofs.Common.{◌≡◌, ℕ, Bool, IsTrue, List, ℤ, pos, IfSome, Some, None, Option, sym, ap, ◌∙◌, subst, w64, SFits, rules}
 use mir.Syntax.{w128}
 use Rattle.arith.specs.Sums.{part, listed}
 use Rattle.arith.proofs.Bits.{back_is}
@@ -11,8 +11,8 @@ use Rattle.trials.proofs.Wide.{wide_is}
 use Rattle.trials.proofs.tight.is_tight.Goals as goal
 
 -- the same numbers, as they were passed
-answer : (r : Option Bool) (k : ℕ) (e b a : ℤ) {e' b' a' : ℤ} {bound allowance : Option ℤ} → IfSome r (λ t. T t → TightBound k e' b' a')
-    → e' ≡ e → b' ≡ b → a' ≡ a → bound ≡ Some b → allowance ≡ Some a → IfSome r (λ t. T t → TightAnswer k e bound allowance)
+answer : (r : Option Bool) (k : ℕ) (e b a : ℤ) {e' b' a' : ℤ} {bound allowance : Option ℤ} → IfSome r (λ t. IsTrue t → TightBound k e' b' a')
+    → e' ≡ e → b' ≡ b → a' ≡ a → bound ≡ Some b → allowance ≡ Some a → IfSome r (λ t. IsTrue t → TightAnswer k e bound allowance)
 answer None k e b a h p q s u v = tt
 answer (Some t) k e b a {e'} {b'} {a'} {bound} {allowance} h p q s u v = λ w.
     subst (λ (o : Option ℤ). TightAnswer k e o allowance) (sym u)

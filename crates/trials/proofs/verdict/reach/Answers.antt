@@ -1,51 +1,67 @@
-use Rattle.std.proofs.Common.{◌≡◌, ℕ, ◌^◌, ◌<◌, ◌≤◌, List, ℤ, ◌*ℤ◌, nat_abs, sym, ap, ◌∙◌, subst, ap₂, lit<, w64, SFits, rules}
+use Rattle.std.proofs.Common.{◌≡◌, ℕ, length, ℤ, pos, ◌+ℤ◌, ◌*ℤ◌, List, sym, ap, ◌∙◌, ap₂, arith, w64, SFits, to_z, rules}
+use Rattle.std.proofs.lemmas.List.{length_push}
+use Rattle.std.proofs.lemmas.Slice.Zip.{zip_turn, zip_end}
 use mir.Syntax.{w128}
-use Rattle.arith.specs.Sums.{part}
-use Rattle.arith.proofs.Bits.{back, back_is}
-use Rattle.dynamics.specs.declared.direction.Direction.{Direction}
+use Rattle.arith.specs.Sums.{part, sum}
+use Rattle.arith.proofs.Bits.{back_is}
 use Rattle.dynamics.specs.Values.{along}
-use Rattle.trials.proofs.Wide.{wide, wide_is, four_summed}
+use Rattle.trials.proofs.Wide.{wide, wide_is, sum_more, Step, step}
 use Rattle.trials.proofs.verdict.reach.Goals as goal
+use Rattle.trials.proofs.verdict.reach.Goals.{After-from-in-loop-entry}
 
--- an entry of a direction that was read
-small : (d : Direction) (l : List ℤ) (i : ℕ) → i < 4 → l ≡ d.entries → SFits w64 (part l i) → nat_abs (back (part l i)) ≤ 2 ^ 20
-small d l i h e f = subst (λ (z : ℤ). nat_abs z ≤ 2 ^ 20) (sym (back_is (part l i) f ∙ ap (λ (xs : List ℤ). part xs i) e)) (d.limited i h)
+-- the product of this turn, and the sum with it
+record Turn (c : After-from-in-loop-entry) : Type 0 where
+  is : wide c.from.result *ℤ wide c.from-in-loop-entry.result ≡ along c.args.direction.now (length c.loop-entry.yielded) *ℤ part c.args.x (length c.loop-entry.yielded)
+  fits : Step (to_z w128 c.loop-entry.reach-bits) (wide c.from.result *ℤ wide c.from-in-loop-entry.result) (length c.loop-entry.yielded)
 
--- a product of numbers that were read
-one : {p : ℤ} (d : Direction) (l : List ℤ) (x : ℕ → ℤ) (i : ℕ) → l ≡ d.entries → SFits w64 (part l i) → SFits w64 (x i) → SFits w128 p → p ≡ back (part l i) *ℤ back (x i) → wide p ≡ along d i *ℤ x i
-one {p} d l x i e f g h q = wide_is p h ∙ q ∙ ap₂ ◌*ℤ◌ (back_is (part l i) f ∙ ap (λ (xs : List ℤ). part xs i) e) (back_is (x i) g)
+turn : (c : After-from-in-loop-entry) → Turn c
+turn c =
+    let d = c.args.direction.now in
+    let at = zip_turn c.entries-l.result c.args.x c.loop-entry.yielded c.into_iter-entry-iterator.result c.loop-entry.entry-iterator c.next.new.self c.next.result (cc) (cc) c.loop-entry.yielded_by _ c.in-Some.is c.next.ensures.steps in
+    let n = length c.loop-entry.yielded in
+    let f : SFits w128 c.from.result = search rules in
+    let g : SFits w128 c.from-in-loop-entry.result = search rules in
+    let a : SFits w64 c.in-Some.entry.now = search rules in
+    let b : SFits w64 c.in-Some.part.now = search rules in
+    let l : wide c.from.result ≡ along d n = wide_is _ f ∙ c.from.ensures ∙ back_is _ a ∙ at.2 (pos 0) ∙ ap (λ (xs : List ℤ). part xs n) c.entries-l.ensures in
+    let x : wide c.from-in-loop-entry.result ≡ c.in-Some.part.now = wide_is _ g ∙ c.from-in-loop-entry.ensures ∙ back_is _ b in
+    let four : length c.args.x ≡ 4 = search rules in
+    record {
+      is = ap₂ ◌*ℤ◌ l (x ∙ at.3 (pos 0));
+      fits = step (to_z w128 c.loop-entry.reach-bits) (wide c.from.result *ℤ wide c.from-in-loop-entry.result) (along d n) c.in-Some.part.now n (omega (arith, at.1)) c.loop-entry.invariant.1
+          (ap₂ ◌*ℤ◌ l x) (d.limited n (omega (arith, at.1))) b;
+    }
 
-pub product-requires : goal.product-requires
-product-requires c = let f : SFits w64 (part c.entries-l.result 0) = search rules in small c.args.direction.now c.entries-l.result 0 (lit< tt) c.entries-l.ensures f
+pub loop-entry-init : goal.loop-entry-init
+unfolding sum
+loop-entry-init c = search rules
 
-pub product-requires-2 : goal.product-requires-2
-product-requires-2 c = let f : SFits w64 (part c.entries-l.result 1) = search rules in small c.args.direction.now c.entries-l.result 1 (lit< tt) c.entries-l.ensures f
+pub overflow_mul-reach : goal.overflow_mul-reach
+overflow_mul-reach c = (turn c).fits.product
 
-pub product-requires-3 : goal.product-requires-3
-product-requires-3 c = let f : SFits w64 (part c.entries-l.result 2) = search rules in small c.args.direction.now c.entries-l.result 2 (lit< tt) c.entries-l.ensures f
+pub overflow_add-reach : goal.overflow_add-reach
+overflow_add-reach c =
+    let t = turn c in
+    rw (wide_is _ t.fits.product) t.fits.sum
 
-pub product-requires-4 : goal.product-requires-4
-product-requires-4 c = let f : SFits w64 (part c.entries-l.result 3) = search rules in small c.args.direction.now c.entries-l.result 3 (lit< tt) c.entries-l.ensures f
+pub loop-entry-preserved : goal.loop-entry-preserved
+loop-entry-preserved c =
+    let t = turn c in
+    let n = length c.loop-entry.yielded in
+    let s = to_z w128 c.loop-entry.reach-bits in
+    let q = wide c.from.result *ℤ wide c.from-in-loop-entry.result in
+    let product : wide q ≡ q = wide_is q t.fits.product in
+    let fits : SFits w128 (s +ℤ wide q) = rw product t.fits.sum in
+    let is : wide (s +ℤ wide q) ≡ s +ℤ q = wide_is (s +ℤ wide q) fits ∙ ap (λ (z : ℤ). s +ℤ z) product in
+    let m = length_push c.loop-entry.yielded (c.in-Some.entry, c.in-Some.part) in (
+      is ∙ ap₂ ◌+ℤ◌ c.loop-entry.invariant.0 t.is ∙ sym (sum_more n _ (λ i. along c.args.direction.now i *ℤ part c.args.x i) m),
+      rw (is, m) t.fits.small,
+    )
 
 pub returns : goal.returns
 returns c =
-    let d = c.args.direction.now in
-    let l = c.entries-l.result in
-    let x = part c.args.x in
-    let e = c.entries-l.ensures in
-    let l0 : SFits w64 (part l 0) = search rules in
-    let l1 : SFits w64 (part l 1) = search rules in
-    let l2 : SFits w64 (part l 2) = search rules in
-    let l3 : SFits w64 (part l 3) = search rules in
-    let x0 : SFits w64 (x 0) = search rules in
-    let x1 : SFits w64 (x 1) = search rules in
-    let x2 : SFits w64 (x 2) = search rules in
-    let x3 : SFits w64 (x 3) = search rules in
-    let p0 : SFits w128 c.product.result = search rules in
-    let p1 : SFits w128 c.product-2.result = search rules in
-    let p2 : SFits w128 c.product-3.result = search rules in
-    let p3 : SFits w128 c.product-4.result = search rules in
-    let s : SFits w128 c.sum_of.result = search rules in
-    wide_is c.sum_of.result s ∙ c.sum_of.ensures
-    ∙ four_summed (λ (i : ℕ). along d i *ℤ x i) (one d l x 0 e l0 x0 p0 c.product.ensures.value) (one d l x 1 e l1 x1 p1 c.product-2.ensures.value)
-    (one d l x 2 e l2 x2 p2 c.product-3.ensures.value) (one d l x 3 e l3 x3 p3 c.product-4.ensures.value)
+    let l : length c.entries-l.result ≡ 4 = search rules in
+    let x : length c.args.x ≡ 4 = search rules in
+    let end = zip_end c.entries-l.result c.args.x c.loop-entry.yielded c.into_iter-entry-iterator.result c.loop-entry.entry-iterator c.next.new.self c.next.result (cc) (cc) c.loop-entry.yielded_by c.in-None.is c.next.ensures.steps in
+    let n : length c.loop-entry.yielded ≡ 4 = omega (arith, end) in
+    c.loop-entry.invariant.0 ∙ ap (λ (n : ℕ). sum n (λ i. along c.args.direction.now i *ℤ part c.args.x i)) n

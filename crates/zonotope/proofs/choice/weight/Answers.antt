@@ -1,27 +1,19 @@
-use Rattle.std.proofs.Common.{◌≡◌, ◌+◌, ◌-◌, ◌≤◌, w64, SFits, rules}
-use Rattle.arith.specs.Sums.{part}
-use Rattle.zonotope.specs.Choice
-use Rattle.zonotope.proofs.Firsts.{weighed}
-use Rattle.zonotope.proofs.Passed.{size_read}
+use Rattle.std.proofs.Common.{◌≡◌, ℕ, ◌+◌, ◌-◌, ◌<◌, max, List, get_or, ℤ, pos, nat_abs, ap, ◌∙◌, arith, rules}
+use Rattle.arith.proofs.FromFn.{map_listed}
+use Rattle.arith.proofs.Sums.{listed_at}
+use Rattle.arith.specs.Sums.{total}
+use Rattle.zonotope.specs.Shape.{size}
+use Rattle.zonotope.specs.Choice.{greatest, weight}
 use Rattle.zonotope.proofs.choice.weight.Goals as goal
-use Rattle.zonotope.proofs.choice.weight.Goals.{After-unsigned_abs-5}
 
-all : (c : After-unsigned_abs-5) → (c.unsigned_abs-5.result ≤ c.unsigned_abs.result + c.unsigned_abs-2.result + (c.unsigned_abs-3.result + c.unsigned_abs-4.result))
-    × (c.unsigned_abs.result + c.unsigned_abs-2.result + (c.unsigned_abs-3.result + c.unsigned_abs-4.result) - c.unsigned_abs-5.result ≡ Choice.weight c.args.generator)
-all c =
-    let g = part c.args.generator in
-    let f0 : SFits w64 (g 0) = search rules in
-    let f1 : SFits w64 (g 1) = search rules in
-    let f2 : SFits w64 (g 2) = search rules in
-    let f3 : SFits w64 (g 3) = search rules in
-    let f4 : SFits w64 (g c.longest.result) = search rules in
-    weighed c.args.generator c.longest.result c.longest.ensures.first
-    (size_read (g 0) f0 c.unsigned_abs.ensures.value) (size_read (g 1) f1 c.unsigned_abs-2.ensures.value)
-    (size_read (g 2) f2 c.unsigned_abs-3.ensures.value) (size_read (g 3) f3 c.unsigned_abs-4.ensures.value)
-    (size_read (g c.longest.result) f4 c.unsigned_abs-5.ensures.value)
-
-pub overflow_sub-result : goal.overflow_sub-result
-overflow_sub-result c = (all c).0
+-- the weight from the four sizes and the greatest of them
+weighed : (g : List ℤ) {a b c d m n k : ℕ} → a ≡ size g 0 → b ≡ size g 1 → c ≡ size g 2 → d ≡ size g 3 → m ≡ max a b → n ≡ max m c → k ≡ max n d → a + b + c + d - k ≡ weight g
+unfolding greatest total
+weighed g ea eb ec ed em en ek = omega arith
 
 pub returns : goal.returns
-returns c = (all c).1
+returns c =
+    let g = c.args.generator in
+    let at : (i : ℕ) → i < 4 → get_or c.map.result i 0 ≡ size g i = λ i h.
+    ap (λ (xs : List ℕ). get_or xs i 0) (map_listed nat_abs g 4 _ _ (pos 0) 0 (λ x y q h. search rules) c.map.ensures.items) ∙ listed_at 4 (size g) 0 i h in
+    weighed g (at 0 (omega arith)) (at 1 (omega arith)) (at 2 (omega arith)) (at 3 (omega arith)) c.max.ensures c.max-2.ensures c.max-3.ensures

@@ -4,4 +4,4 @@ use Rattle.zonotope.specs.Shape.{size, sizes}
 use Rattle.zonotope.proofs.extent.extents.Given as goal
 
 abbrev pub invariant-loop-generator : goal.invariant-loop-generator
-invariant-loop-generator l = l.sums ≡ listed 4 (λ i. pos (size l.initial.sums i + sizes (take l.generator-index l.generators) i))
+invariant-loop-generator l = l.sums ≡ listed 4 (λ i. pos (size l.folding.centre i + size l.folding.axis i + sizes (take l.generator-index l.generator-items) i))

@@ -1,38 +1,23 @@
-use Rattle.std.proofs.Common.{◌≡◌, ◌^◌, ◌≤◌, List, ◌++◌, map, length, ℤ, sym, ap, ◌∙◌, subst, ap₂, append_assoc, arith}
-use Rattle.arith.specs.Sums.{entry}
+use Rattle.std.proofs.Common.{◌≡◌, ◌^◌, List, ◌++◌, map, ℤ, sym, ap, ◌∙◌, subst, ap₂, append_assoc, le_trans, arith, lit≤}
+use Rattle.arith.specs.Sums.{part, entry}
 use Rattle.dynamics.specs.Limits.{MatrixLimits}
 use Rattle.dynamics.specs.Values.{loop, push, radius}
+use Rattle.dynamics.proofs.Views.{radius-size}
 use Rattle.zonotope.specs.Shape.{size}
 use Rattle.zonotope.specs.Advance.{columns}
 use Rattle.zonotope.specs.Advance
-use Rattle.zonotope.specs.Ranges.{AllEntries}
+use Rattle.zonotope.specs.Ranges.{CountsOf}
 use Rattle.zonotope.specs.Forms.{standing}
-use Rattle.zonotope.proofs.StoredLimits.{stored_few, stored_entries}
 use Rattle.zonotope.proofs.images.images.Goals as goal
 
-pub moved-images-requires : goal.moved-images-requires
-moved-images-requires c =
-    let t = c.args.stored.now in
-    record {
-      few = subst (λ (gs : List (List ℤ)). length gs ≤ 16) (sym c.list.ensures) (stored_few t);
-      matrix = subst (MatrixLimits 4) (sym c.matrix.ensures) c.args.model.now.entered;
-      entries = subst (AllEntries (2 ^ 30)) (sym c.list.ensures) (stored_entries t);
-    }
+pub add_columns-requires : goal.add_columns-requires
+add_columns-requires c = (omega arith, (omega arith, (omega (arith, c.moved-images.ensures.few), (subst (MatrixLimits 4) (sym c.matrix.ensures) c.args.model.now.entered, c.args.stored.now.axis.limited))))
 
-pub add_axis_images-requires : goal.add_axis_images-requires
-add_axis_images-requires c =
-    let t = c.args.stored.now in
-    let n : length c.list.result.now ≤ 16 = subst (λ (gs : List (List ℤ)). length gs ≤ 16) (sym c.list.ensures) (stored_few t) in
-    record {
-      room = omega (arith, c.moved-images.ensures.count);
-      matrix = subst (MatrixLimits 4) (sym c.matrix-2.ensures) c.args.model.now.entered;
-      axis = t.axial;
-    }
-
-pub add_gust_images-requires : goal.add_gust_images-requires
-add_gust_images-requires c =
-    let n : length c.list.result.now ≤ 16 = subst (λ (gs : List (List ℤ)). length gs ≤ 16) (sym c.list.ensures) (stored_few c.args.stored.now) in
-    omega (arith, c.moved-images.ensures.count, c.add_axis_images.ensures.count)
+pub add_columns-requires-2 : goal.add_columns-requires-2
+add_columns-requires-2 c =
+    let m = c.args.model.now in
+    let counts : CountsOf 2 (2 ^ 30) c.radii.result = λ j h. rw (ap (λ (xs : List ℤ). part xs j) c.radii.ensures) (m.calm.0 j h, le_trans (radius-size m j h) (lit≤ tt)) in
+    (omega arith, (omega arith, (omega (arith, c.moved-images.ensures.few, c.add_columns.ensures.len), (subst (MatrixLimits 2) (sym c.gains.ensures) m.gained, counts))))
 
 -- the three kinds, one after the other
 joined : {X : Type 0} (a b c d e f : List X) → a ≡ b ++ c → b ≡ d ++ e → d ≡ f → a ≡ f ++ (e ++ c)
@@ -43,7 +28,7 @@ unfolding Advance.images
 returns c =
     let m = c.args.model.now in
     let t = c.args.stored.now in
-    joined _ _ (columns 2 (push m) (radius m)) _ (columns 4 (loop m) (size t.axis)) (map (Advance.moved (loop m)) (standing t.generators))
-    c.add_gust_images.ensures.list
-    (c.add_axis_images.ensures.list ∙ ap (λ (xs : List (List ℤ)). standing c.moved-images.result ++ columns 4 (entry xs) (size t.axis)) c.matrix-2.ensures)
-    (c.moved-images.ensures.list ∙ ap₂ (λ (xs ys : List (List ℤ)). map (Advance.moved (entry xs)) ys) c.matrix.ensures c.list.ensures)
+    joined _ _ (columns 2 (push m) (radius m)) _ (columns 4 (loop m) (size t.axis.parts)) (map (Advance.moved (loop m)) (standing t.generators))
+    (c.add_columns-2.ensures.list ∙ ap₂ (λ (a : List (List ℤ)) (r : List ℤ). standing c.add_columns.new.images ++ columns 2 (entry a) (size r)) c.gains.ensures c.radii.ensures)
+    (c.add_columns.ensures.list ∙ ap (λ (a : List (List ℤ)). standing c.moved-images.result ++ columns 4 (entry a) (size t.axis.parts)) c.matrix.ensures)
+    c.moved-images.ensures.list

@@ -9,47 +9,44 @@ use Rattle.dynamics.specs.Limits.{MatrixLimits}
 use Rattle.dynamics.proofs.Views.{middle-size}
 use Rattle.zonotope.specs.Ranges.{Entries}
 use Rattle.zonotope.proofs.Counts.{listed-entries}
-use Rattle.zonotope.proofs.ImageLimits.{column-size, column_is}
+use Rattle.zonotope.proofs.ImageLimits.{column-size, column_is, loop-column_is}
+use Rattle.zonotope.proofs.StoredLimits.{stored_centre}
 use Rattle.zonotope.proofs.images.middle_image.Goals as goal
-use Rattle.zonotope.proofs.images.middle_image.Goals.{After-gusts_times_column}
+use Rattle.zonotope.proofs.images.middle_image.Goals.{After-times_column-2}
 
 -- the same of a list that is known to be so written
 written-entries : (f : ℕ → ℤ) (xs : List ℤ) (n b : ℕ) → xs ≡ listed 4 f → ((i : ℕ) → i < 4 → nat_abs (f i) ≤ n) → n ≤ b → Entries b xs
 written-entries f xs n b e h k = subst (Entries b) (sym e) (λ i q. le_trans (listed-entries f n h i q) k)
 
 -- the two products, over the model's own matrices
-by_loop : (c : After-gusts_times_column) → c.matrix_times_column.result ≡ listed 4 (times_column 4 (loop c.args.model.now) (part c.args.centre))
-by_loop c =
-    let m = c.args.model.now in
-    let a = c.matrix.result in
-    column_is 4 a (part c.args.centre) (2 ^ 30) (subst (MatrixLimits 4) (sym c.matrix.ensures) m.entered) c.requires (lit< tt) c.matrix_times_column.ensures.exact
-    ∙ ap (λ (xs : List (List ℤ)). listed 4 (times_column 4 (entry xs) (part c.args.centre))) c.matrix.ensures
+by_loop : (c : After-times_column-2) → c.times_column.result ≡ listed 4 (times_column 4 (loop c.args.model.now) (part c.args.stored.now.centre))
+by_loop c = loop-column_is c.args.model.now c.args.stored.now.centre (stored_centre c.args.stored.now) c.matrix.ensures c.times_column.ensures.exact
 
-by_gusts : (c : After-gusts_times_column) → c.gusts_times_column.result ≡ listed 4 (times_column 2 (push c.args.model.now) (middle c.args.model.now))
+by_gusts : (c : After-times_column-2) → c.times_column-2.result ≡ listed 4 (times_column 2 (push c.args.model.now) (middle c.args.model.now))
 by_gusts c =
     let m = c.args.model.now in
     let b = c.gains.result in
     let d = c.centres.result in
     column_is 2 b (part d) (2 ^ 24) (subst (MatrixLimits 2) (sym c.gains.ensures) m.gained)
-    (λ j h. subst (λ (xs : List ℤ). nat_abs (part xs j) ≤ 2 ^ 24) (sym c.centres.ensures) (middle-size m j h)) (lit< tt) c.gusts_times_column.ensures.exact
+    (λ j h. subst (λ (xs : List ℤ). nat_abs (part xs j) ≤ 2 ^ 24) (sym c.centres.ensures) (middle-size m j h)) (lit< tt) c.times_column-2.ensures.exact
     ∙ ap₂ (λ (xs : List (List ℤ)) (ys : List ℤ). listed 4 (times_column 2 (entry xs) (part ys))) c.gains.ensures c.centres.ensures
 
 pub sum-requires : goal.sum-requires
 sum-requires c =
     let m = c.args.model.now in
     record {
-      first = written-entries (times_column 4 (loop m) (part c.args.centre)) c.matrix_times_column.result (4 * (2 ^ 20 * 2 ^ 30)) (2 ^ 61) (by_loop c)
-          (column-size 4 m.matrix (part c.args.centre) (2 ^ 30) m.entered c.requires) (lit≤ tt);
-      second = written-entries (times_column 2 (push m) (middle m)) c.gusts_times_column.result (2 * (2 ^ 20 * 2 ^ 24)) (2 ^ 61) (by_gusts c)
+      first = written-entries (times_column 4 (loop m) (part c.args.stored.now.centre)) c.times_column.result (4 * (2 ^ 20 * 2 ^ 30)) (2 ^ 61) (by_loop c)
+          (column-size 4 m.matrix (part c.args.stored.now.centre) (2 ^ 30) m.entered (stored_centre c.args.stored.now)) (lit≤ tt);
+      second = written-entries (times_column 2 (push m) (middle m)) c.times_column-2.result (2 * (2 ^ 20 * 2 ^ 24)) (2 ^ 61) (by_gusts c)
           (column-size 2 m.gains (middle m) (2 ^ 24) m.gained (middle-size m)) (lit≤ tt);
     }
 
 pub returns : goal.returns
 returns c =
     let m = c.args.model.now in
-    let k = (goal.at.returns c).After-gusts_times_column in
+    let k = (goal.at.returns c).After-times_column-2 in
     c.sum.ensures
-    ∙ listed_ext 4 (λ i. part c.matrix_times_column.result i +ℤ part c.gusts_times_column.result i) (image m (part c.args.centre) (middle m))
+    ∙ listed_ext 4 (λ i. part c.times_column.result i +ℤ part c.times_column-2.result i) (image m (part c.args.stored.now.centre) (middle m))
     (λ i h. ap₂ ◌+ℤ◌
-    (ap (λ (xs : List ℤ). part xs i) (by_loop k) ∙ listed_at 4 (times_column 4 (loop m) (part c.args.centre)) (pos 0) i h)
+    (ap (λ (xs : List ℤ). part xs i) (by_loop k) ∙ listed_at 4 (times_column 4 (loop m) (part c.args.stored.now.centre)) (pos 0) i h)
     (ap (λ (xs : List ℤ). part xs i) (by_gusts k) ∙ listed_at 4 (times_column 2 (push m) (middle m)) (pos 0) i h))

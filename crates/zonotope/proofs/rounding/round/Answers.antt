@@ -1,28 +1,31 @@
-use Rattle.std.proofs.Common.{ℕ, ℤ, pos, ap, ◌∙◌, w64, SFits, rules}
+use Rattle.std.proofs.Common.{◌≡◌, ℕ, ◌<◌, List, get_or, ℤ, pos, ap, ◌∙◌, ap₂, rules}
 use Rattle.arith.specs.Rounding.{nearest, residue}
 use Rattle.arith.specs.Sums.{part}
-use Rattle.arith.proofs.Bits.{back_is}
-use Rattle.arith.proofs.Sums.{written-more, written_all}
+use Rattle.arith.proofs.Bridge.{listed_ext}
+use Rattle.arith.proofs.FromFn.{map_listed}
+use Rattle.arith.proofs.Sums.{listed_at}
 use Rattle.zonotope.proofs.rounding.round.Goals as goal
+use Rattle.zonotope.proofs.rounding.round.Goals.{After-map}
 
-pub loop-i-preserved : goal.loop-i-preserved
-loop-i-preserved c =
-    let i = c.loop-i.i in
-    let h = c.loop-i-test.true in
-    let u = part c.args.vector in
-    let f : SFits w64 (u i) = search rules in
-    let f0 : SFits w64 c.near-quotient.result.0 = search rules in
-    let f1 : SFits w64 c.near-quotient.result.1 = search rules in (
-      written-more 4 i (λ (i : ℕ). nearest (u i)) c.loop-i.nearest h c.loop-i.invariant.0
-          (back_is c.near-quotient.result.0 f0 ∙ c.near-quotient.ensures.quotient ∙ ap nearest (back_is (u i) f)),
-      written-more 4 i (λ (i : ℕ). pos (residue (u i))) c.loop-i.residues h c.loop-i.invariant.1
-          (back_is c.near-quotient.result.1 f1 ∙ c.near-quotient.ensures.rest ∙ ap (λ (z : ℤ). pos (residue z)) (back_is (u i) f)),
-    )
+-- a number's nearest whole number and its residue
+abbrev near_of : ℤ → ℤ × ℤ
+near_of u = (nearest u, pos (residue u))
 
-pub returns : goal.returns
-returns c =
-    let u = part c.args.vector in
-    record {
-      nearest = written_all 4 c.loop-i.i (λ (i : ℕ). nearest (u i)) c.loop-i.nearest c.loop-i-test.false c.loop-i.invariant.0;
-      residues = written_all 4 c.loop-i.i (λ (i : ℕ). pos (residue (u i))) c.loop-i.residues c.loop-i-test.false c.loop-i.invariant.1;
-    }
+pair_is : {a b : ℤ} (y : ℤ × ℤ) → y.0 ≡ a → y.1 ≡ b → y ≡ (a, b)
+pair_is y p q = ap₂ (λ (s t : ℤ). (s, t)) p q
+
+pair_at : (c : After-map) (i : ℕ) → i < 4 → get_or c.map-rounded.result i (pos 0, pos 0) ≡ near_of (part c.args.vector i)
+pair_at c i l =
+    ap (λ (xs : List (ℤ × ℤ)). get_or xs i (pos 0, pos 0))
+    (map_listed near_of c.args.vector 4 _ _ (pos 0) (pos 0, pos 0) (λ x y q h. search (rules, pair_is)) c.map-rounded.ensures.items)
+    ∙ listed_at 4 (λ i. near_of (part c.args.vector i)) (pos 0, pos 0) i l
+
+pub returns-clause-nearest : goal.returns-clause-nearest
+returns-clause-nearest c =
+    map_listed (λ (p : ℤ × ℤ). p.0) c.map-rounded.result 4 _ _ (pos 0, pos 0) (pos 0) (λ x y q h. search rules) c.map.ensures.items
+    ∙ listed_ext 4 _ (λ i. nearest (part c.args.vector i)) (λ i l. ap (λ (p : ℤ × ℤ). p.0) (pair_at (goal.at.returns-clause-nearest c).After-map i l))
+
+pub returns-clause-residues : goal.returns-clause-residues
+returns-clause-residues c =
+    map_listed (λ (p : ℤ × ℤ). p.1) c.map-rounded.result 4 _ _ (pos 0, pos 0) (pos 0) (λ x y q h. search rules) c.map-2.ensures.items
+    ∙ listed_ext 4 _ (λ i. pos (residue (part c.args.vector i))) (λ i l. ap (λ (p : ℤ × ℤ). p.1) (pair_at (goal.at.returns-clause-residues c).After-map i l))

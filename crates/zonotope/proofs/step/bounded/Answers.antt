@@ -1,44 +1,36 @@
-use Rattle.std.proofs.Common.{◌≡◌, ℕ, ◌+◌, ◌^◌, ◌<◌, List, ℤ, pos, sym, ap, ◌∙◌, arith}
+use Rattle.std.proofs.Common.{◌≡◌, ℕ, ◌^◌, ◌<◌, ◌≤◌, Bool, true, List, ℤ, pos, Some, Option, sym, ap, ◌∙◌, arith}
 use Rattle.arith.specs.Sums.{listed}
 use Rattle.zonotope.specs.declared.fold.Folding.{Folding}
-use Rattle.zonotope.specs.Shape.{size, sizes, extent}
-use Rattle.zonotope.specs.Fold.{grown}
-use Rattle.zonotope.specs.Domain.{bounds}
+use Rattle.zonotope.specs.Shape.{extent}
+use Rattle.zonotope.specs.Domain.{Form, bounds, narrow}
 use Rattle.zonotope.specs.Foldings.{folding_shape}
-use Rattle.zonotope.specs.Forms.{standing}
-use Rattle.zonotope.proofs.Counts.{listed-size, listed_counts}
+use Rattle.zonotope.proofs.Counts.{listed-size}
 use Rattle.zonotope.proofs.Same.{narrow-bounds, narrow_at, kept_true, kept_false}
 use Rattle.zonotope.proofs.step.bounded.Goals as goal
 
--- the sums that are tested are the shape's extents
-sums_are : (f : Folding) (counts sums : List ℤ) (gs : List (List ℤ)) → counts ≡ grown f.axis f.centre → gs ≡ standing f.generators → sums ≡ listed 4 (λ i. pos (size counts i + sizes gs i))
-    → (i : ℕ) → i < 4 → size sums i ≡ extent (folding_shape f) i
-sums_are f counts sums gs e g s i h =
-    omega (arith, listed-size (λ i. size counts i + sizes gs i) sums i s h, listed-size (λ i. size f.axis i + size f.centre i) counts i e h, ap (λ (xs : List (List ℤ)). sizes xs i) g)
+module _ (f : Folding) {sums : List ℤ} {b : Bool} (e : sums ≡ listed 4 (λ i. pos (extent (folding_shape f) i))) (n : b ≡ narrow sums) where
+  -- the test is that of the shape
+  tested : b ≡ bounds (folding_shape f)
+  tested = n ∙ narrow-bounds (folding_shape f) sums (λ i h. listed-size (extent (folding_shape f)) sums i e h)
 
-pub extents-requires : goal.extents-requires
-extents-requires c =
-    let f = c.args.folding.now in
-    λ i h. (
-      (listed_counts (λ i. size f.axis i + size f.centre i) c.grown-counts.result (2 ^ 60) c.grown-counts.ensures (λ i q. omega (arith, (c.requires.axis i q).1, c.requires.centre i q)) i h).0,
-      omega (arith, listed-size (λ i. size f.axis i + size f.centre i) c.grown-counts.result i c.grown-counts.ensures h, ap (λ (xs : List (List ℤ)). sizes xs i) c.list.ensures, (c.requires.axis i h).1, c.requires.centre i h),
-    )
+  within : b ≡ true → (i : ℕ) → i < 4 → extent (folding_shape f) i ≤ 2 ^ 30
+  within t i h = omega (arith, listed-size (extent (folding_shape f)) sums i e h, narrow_at sums (sym n ∙ t) i h)
 
 pub returns-then-not-is_narrow : goal.returns-then-not-is_narrow
 returns-then-not-is_narrow c =
-    let f = c.args.folding.now in
-    let e = narrow-bounds (folding_shape f) c.extents.result (sums_are f c.grown-counts.result c.extents.result c.list.result.now c.grown-counts.ensures c.list.ensures c.extents.ensures) in
-    sym (kept_false (bounds (folding_shape f)) _ (sym e ∙ sym c.is_narrow.ensures ∙ c.if-not-is_narrow.true))
+    sym (kept_false (bounds (folding_shape c.args.folding.now)) _ (sym (tested c.args.folding.now c.extents.ensures c.is_narrow.ensures) ∙ c.if-not-is_narrow.true))
 
 pub invariant_of-result : goal.invariant_of-result
 invariant_of-result c =
     let f = c.args.folding.now in
-    let s = sums_are f c.grown-counts.result c.extents.result c.list.result.now c.grown-counts.ensures c.list.ensures c.extents.ensures in
-    let n = narrow_at c.extents.result (sym c.is_narrow.ensures ∙ c.if-not-is_narrow.false) in
-    record { few = c.requires.few; axial = λ i h. ((c.requires.axis i h).0, omega (arith, n i h, s i h)); limited = λ i h. omega (arith, n i h, s i h) }
+    record { limited = λ i h. ((f.roomy i h).0, omega (arith, within f c.extents.ensures c.is_narrow.ensures c.if-not-is_narrow.false i h)) }
+
+pub invariant_of-result-2 : goal.invariant_of-result-2
+invariant_of-result-2 c = record { few = c.requires; limited = within c.args.folding.now c.extents.ensures c.is_narrow.ensures c.if-not-is_narrow.false }
 
 pub returns : goal.returns
 returns c =
-    let f = c.args.folding.now in
-    let e = narrow-bounds (folding_shape f) c.extents.result (sums_are f c.grown-counts.result c.extents.result c.list.result.now c.grown-counts.ensures c.list.ensures c.extents.ensures) in
-    sym (kept_true (bounds (folding_shape f)) _ (sym e ∙ sym c.is_narrow.ensures ∙ c.if-not-is_narrow.false))
+    let z = folding_shape c.args.folding.now in
+    let kept = λ (s : Option (List ℤ)). let f : Form = Some (record { shape = z; spread = s }) in f in
+    ap kept c.narrow_spread.ensures
+    ∙ sym (kept_true (bounds z) _ (sym (tested c.args.folding.now c.extents.ensures c.is_narrow.ensures) ∙ c.if-not-is_narrow.false))

@@ -31,12 +31,6 @@ module _ (s : Start) {p : ℕ} {w : ℤ} (e : p ≡ widest (width s)) (f : w ≡
   up_near : nat_abs (back w) ≤ shift s
   up_near = rw shift_is.up (omega arith)
 
-pub half-requires : goal.half-requires
-half-requires c = record { widest = c.widest_part-part.ensures.value; near = down_near c.args.self.now c.widest_part-part.ensures.value c.half_radius-shift.ensures }
-
-pub half-requires-2 : goal.half-requires-2
-half-requires-2 c = record { widest = c.widest_part-part.ensures.value; near = up_near c.args.self.now c.widest_part-part.ensures.value c.half_radius-shift.ensures }
-
 pub returns : goal.returns
 returns c =
     let s = c.args.self.now in

@@ -1,6 +1,7 @@
-use Rattle.std.proofs.Common.{refl}
-use Rattle.plan.proofs.Breaks.{from_some}
+use Rattle.std.proofs.Common.{length, refl, ap, arith}
+use Rattle.plan.specs.Cuts.{fields_left}
+use Rattle.plan.proofs.Joins.{some_field}
 use Rattle.plan.proofs.cuts.Fields.done.Goals as goal
 
-pub returns-then-self : goal.returns-then-self
-returns-then-self c = (refl, from_some _ _ c.if-self.true)
+pub returns-in-Some : goal.returns-in-Some
+returns-in-Some c = (refl, omega (arith, ap (λ r. length (fields_left r)) c.in-Some.is, ap length (some_field c.in-Some.field-0.now).2))

@@ -3,7 +3,7 @@ use Rattle.arith.specs.Sums.{part}
 use Rattle.arith.proofs.Bits.{back, back_is, fits_abs}
 use Rattle.arith.proofs.Indices.{by4}
 use Rattle.dynamics.specs.Limits.{StartLimits}
-use Rattle.plan.specs.Readings.{rest, line_by}
+use Rattle.plan.specs.Readings.{line_by}
 use Rattle.plan.specs.Values.{start_of}
 use Rattle.plan.proofs.Inside.{line_by_ok, start_kept}
 use Rattle.plan.proofs.lines.Lines.start.Goals as goal
@@ -28,11 +28,11 @@ limits p q r s a b c d k l m n = (
 
 pub unreachable-requires : goal.unreachable-requires
 unreachable-requires c =
-    let first = read 1 c.args.self.now.number (rest c.args.self.now) c.in_ok-p1.p1 c.in_ok-p1.w1 _ _ c.in_ok-p1.ensures.value in
-    let second = read 2 c.part.new.self.number (rest c.part.new.self) c.in_ok-p2.p2 c.in_ok-p2.w2 _ _ c.in_ok-p2.ensures.value in
-    let third = read 3 c.part-2.new.self.number (rest c.part-2.new.self) c.in_ok-p3.p3 c.in_ok-p3.w3 _ _ c.in_ok-p3.ensures.value in
-    let fourth = read 4 c.part-3.new.self.number (rest c.part-3.new.self) c.in_ok-p4.p4 c.in_ok-p4.w4 _ _ c.in_ok-p4.ensures.value in
-    let none = c.in-Err.ensures.limits.1 (limits _ _ _ _ _ _ _ _ first second third fourth) in
-    let some = c.in-Err.ensures.value in
+    let first = read 1 c.args.self.now.number c.args.self.now.rest.now c.in_ok-p1.p1 c.in_ok-p1.w1 _ _ c.in_ok-p1.ensures in
+    let second = read 2 c.part.new.self.number c.part.new.self.rest.now c.in_ok-p2.p2 c.in_ok-p2.w2 _ _ c.in_ok-p2.ensures in
+    let third = read 3 c.part-2.new.self.number c.part-2.new.self.rest.now c.in_ok-p3.p3 c.in_ok-p3.w3 _ _ c.in_ok-p3.ensures in
+    let fourth = read 4 c.part-3.new.self.number c.part-3.new.self.rest.now c.in_ok-p4.p4 c.in_ok-p4.w4 _ _ c.in_ok-p4.ensures in
+    let none = c.in_default.ensures.limits.1 (limits _ _ _ _ _ _ _ _ first second third fourth) in
+    let some = c.in_default.ensures.value in
     let z : ◌≡◌ {A = ℕ} 0 1 = cc in
     omega arith

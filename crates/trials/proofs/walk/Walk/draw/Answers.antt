@@ -17,7 +17,7 @@ loop-preserved c =
     let Calm : List ℤ → Type 0 = λ d. (j : ℕ) → j < 2 → nat_abs (part d j -ℤ middle m j) ≤ radius m j in (
       more m c.args.start.now (vec_items c.loop.states) (vec_items c.push-in-loop.new.self) c.loop.x c.successor-next.result c.loop.invariant.0 c.successor-next.ensures c.in_ok-push-2.ensures.items,
       elim c.if-not-steady.branch [
-        | then-not-steady w ↦ subst Calm (sym w.gusts-is) w.draw_gusts-drawn.ensures
+        | then-not-steady w ↦ subst Calm (sym w.gusts-is) w.draw_gusts-gusts-then-not-steady.ensures
         | else-not-steady w ↦ subst Calm (sym w.gusts-is) c.loop.invariant.1
       ],
     )

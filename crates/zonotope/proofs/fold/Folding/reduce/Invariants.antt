@@ -5,4 +5,4 @@ abbrev pub invariant-loop-self : goal.invariant-loop-self
 invariant-loop-self l = Folds l.initial.self l.self
 
 abbrev pub decreases-loop-self : goal.decreases-loop-self
-decreases-loop-self l = l.self.generators.count
+decreases-loop-self l = l.self.generators.len

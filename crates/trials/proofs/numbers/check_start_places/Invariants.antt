@@ -1,6 +1,0 @@
-use Rattle.std.proofs.Common.{◌≡◌, ◌+◌, ◌*◌}
-use Rattle.trials.specs.Counts.{total}
-use Rattle.trials.proofs.numbers.check_start_places.Given as goal
-
-abbrev pub invariant-loop-place : goal.invariant-loop-place
-invariant-loop-place l = total l.marks + 2 ≡ 2 * l.place
