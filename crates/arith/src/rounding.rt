@@ -20,6 +20,7 @@ pub fn near(u: i64) -> (i64, i64)
     ensures distance { result.1 ≡ pos (unsigned_abs (u -ℤ pos 4096 *ℤ result.0)) }
     ensures half { unsigned_abs result.1 ≤ 2048 }
 {
+    // A tuple: the project fixes this form.
     let quotient = down(u);
     let remainder = u - 4096 * quotient;
     if remainder < 2048 {

@@ -14,6 +14,7 @@ pub struct Interval {
 }
 
 /// The bound on the axis of a number.
+// A number and no enum: the rules number the axes, and a part's two axes are found by it.
 fn axis_bound<D: Domain>(domain: &D, axis: usize) -> Option<i64>
     requires { axis < 8 }
     ensures { result ≡ D.sense.bounded (axes.axis axis) (D.form domain.now) }

@@ -1,4 +1,4 @@
-//! The interface of an abstract domain, and the domains and layers that stand on it.
+//! The interface of an abstract domain, the interval box, and the enclosure of a domain.
 #![tactic(auto)]
 
 pub mod axis;

@@ -4,11 +4,12 @@ ghost use Rattle.dynamics.specs.Refusals.{number, place, channel_numbers, model_
 ghost use Rattle.dynamics.specs.Limits.{MatrixLimits, GustLimits, ModelLimits, Exactly};
 
 use super::channel::Channel;
-use super::ranges::{Ranged, check_matrix, check_ranges, check_sum};
+use super::ranges::{Ranged, check_matrix, check_ranges, check_sum, row_numbers};
 use super::refusal::Refusal;
 
 /// `matrix` is A by rows, `gains` is B by rows, one row for each part; `centres` and `radii` are
 /// those of the two gust channels.
+// Two arrays for the gusts and no array of pairs: a product takes all centres or all radii.
 #[derive(Clone, Copy)]
 pub struct Model {
     matrix: [[i64; 4]; 4],
@@ -24,20 +25,17 @@ pub struct Model {
 fn channel_numbers(channel: Channel) -> [Ranged; 6]
     ensures { result ≡ channel_numbers channel }
 {
-    [
-        Ranged::within(channel.gains[0], 1048576),
-        Ranged::within(channel.gains[1], 1048576),
-        Ranged::within(channel.gains[2], 1048576),
-        Ranged::within(channel.gains[3], 1048576),
-        Ranged::within(channel.centre, 16777216),
-        Ranged::up_to(channel.radius, 16777216),
-    ]
+    let [a, b, c, d] = row_numbers(channel.gains);
+    let centre = Ranged::within(channel.centre, 16777216);
+    let radius = Ranged::up_to(channel.radius, 16777216);
+    [a, b, c, d, centre, radius]
 }
 
 /// The two channels' gains by parts.
 fn by_parts(first: [i64; 4], second: [i64; 4]) -> [[i64; 2]; 4]
     ensures { result ≡ by_parts first second }
 {
+    // Written out: of arrays within an array that `from_fn` makes, the proof stays open.
     [
         [first[0], second[0]],
         [first[1], second[1]],

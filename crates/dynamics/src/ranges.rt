@@ -50,6 +50,7 @@ fn first_outside(numbers: &[Ranged], before: usize) -> Option<usize>
     requires { before + length numbers.now < 2 ^ 60 }
     ensures { result ≡ first_outside before numbers.now }
 {
+    // No `position`: what is sought is defined by recursion, for which the library has no law.
     for (i, number) in numbers.iter().enumerate() {
         if number.is_outside() {
             return Some(before + i + 1);
@@ -62,6 +63,7 @@ fn first_outside(numbers: &[Ranged], before: usize) -> Option<usize>
 fn first_outside_matrix(matrix: [[i64; 4]; 4]) -> Option<usize>
     ensures { result ≡ first_outside 0 (joined (matrix_rows matrix)) }
 {
+    // Two loops left by a label: the project fixes this form.
     let mut found = None;
     'rows: for i in 0..4 {
         let row = matrix[i];

@@ -8,6 +8,7 @@ mod halves;
 use super::ranges::{Ranged, check_ranges, is_too_large};
 use super::refusal::Refusal;
 
+// Two arrays and no array of pairs: a product takes all centres or all radii as one vector.
 #[derive(Clone, Copy)]
 pub struct Start {
     centres: [i64; 4],
@@ -36,6 +37,7 @@ fn first_wide_part(centres: [i64; 4], radii: [i64; 4]) -> Option<usize>
     ensures value { result ≡ wide_start centres radii }
     ensures below { IfSome result (λ i. i < 4) }
 {
+    // Counted: of `position` over a zip the first place stays unproved.
     for i in 0..4 {
         if is_too_large(centres[i], radii[i], 1073741824) {
             return Some(i);

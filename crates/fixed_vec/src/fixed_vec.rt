@@ -8,12 +8,14 @@ use std::alloc::AllocError;
 pub struct Full;
 
 /// The first `len` of the storage are the items; what stands behind them means nothing.
+// An array with a length: a domain has no heap. Not the library's `ArrayVec`, which is not `Copy`.
 pub struct FixedVec<T, const N: usize> {
     storage: [T; N],
     len: usize,
     ghost room: { len ≤ N },
 }
 
+// By hand: neither can be derived on a generic type with a ghost field.
 impl<T: Copy, const N: usize> Clone for FixedVec<T, N> {
     ghost is_clone = { λ x y. y ≡ x };
 

@@ -1,5 +1,5 @@
-//! A tube by its seven calls: open, watch, launch, step, bound, finding and finish, over the reduced
-//! product of zonotope and interval box.
+//! A tube from open to finish, by the calls open, watch, launch, step, finding and finish, over the
+//! reduced product of zonotope and interval box.
 #![tactic(auto)]
 
 ghost use Rattle.std.specs.Prelude.{◌≡◌, IfOk, None};

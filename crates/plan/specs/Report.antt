@@ -70,3 +70,7 @@ pub record PutsLine (more : List ℕ) (before after : Writer) (result : Result (
 -- the number of the refusal of a line that does not fit
 abbrev pub full_number : ℕ
 full_number = 14
+
+-- what it says
+abbrev pub full_text : List ℕ
+full_text = codes "a line does not fit"

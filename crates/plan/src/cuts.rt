@@ -25,6 +25,7 @@ pub(crate) fn part(text: &[u8], stop: u8) -> &[u8]
 }
 
 /// The fields of a line that are left; absent past its end.
+// Split by hand: the library's `split` says less of the pieces than the fields' definition needs.
 #[derive(Drop)]
 pub(crate) struct Fields<'a> {
     rest: Option<&'a [u8]>,
@@ -41,7 +42,7 @@ impl<'a> Fields<'a> {
     pub(crate) fn next(&mut self) -> Result<&'a [u8], LineFault>
         ensures { MatchResult result
             (λ s. fields_left self.old.rest ≡ s.now ∷ fields_left self.new.rest)
-            (λ e. (e ≡ Count) × (fields_left self.old.rest ≡ [])) }
+            (λ e. (e ≡ Count) × (fields_left self.old.rest ≡ []) × (self.new.rest ≡ self.old.rest)) }
     {
         let rest = self.rest.ok_or(LineFault::Count)?;
         let field = part(rest, b'\t');

@@ -1,5 +1,5 @@
 //! The keep-outs of a plan, in order: at most sixteen.
-ghost use Rattle.std.specs.Prelude.{◌≡◌, ◌+◌, ◌<◌, [], ◌∷◌, ◌++◌, replicate, pos, slice_get};
+ghost use Rattle.std.specs.Prelude.{◌≡◌, ◌+◌, ◌<◌, [], ◌∷◌, ◌++◌, length, replicate, pos, slice_get};
 ghost use Rattle.plan.specs.Keeps.{kept_list};
 
 use super::keep::Keep;
@@ -50,9 +50,17 @@ impl<'a> Keeps<'a> {
 
     /// How many there are.
     pub fn count(&self) -> usize
-        ensures { result ≡ self.now.list.len }
+        ensures value { result ≡ self.now.list.len }
+        ensures items { result ≡ length (kept_list self.now) }
     {
         self.list.len()
+    }
+
+    /// The keep-outs in order.
+    pub fn as_slice(&self) -> &[Keep<'a>]
+        ensures { result.now ≡ kept_list self.now }
+    {
+        self.list.as_slice()
     }
 
     /// The keep-out of a number from 0.

@@ -28,6 +28,7 @@ fn magnitude(digits: &[u8], start: usize, field: usize) -> Result<u64, NumberFau
 }
 
 /// The number that a field writes.
+// The field goes along: `From` sees only the inner fault.
 pub fn read_number(text: &[u8], field: usize) -> Result<i64, NumberFault>
     ensures { result ≡ number_of field text.now }
 {

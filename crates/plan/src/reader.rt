@@ -56,6 +56,7 @@ impl<'a> Lines<'a> {
     }
 
     /// The four rows.
+    // Written out: of an error `try_from_fn` does not say that it is the first.
     fn rows(&mut self) -> Result<[[i64; 4]; 4], LineFault>
         ensures { Reads (λ v. v) rows_at self.old self.new result }
     {
@@ -76,6 +77,7 @@ impl<'a> Lines<'a> {
     }
 
     /// The start: four parts.
+    // Written out for the same reason as the rows.
     fn start(&mut self) -> Result<Start, LineFault>
         ensures { Reads plain_begin begin_at self.old self.new result }
     {

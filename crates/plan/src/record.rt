@@ -42,6 +42,8 @@ pub enum Record<'a> {
     },
 }
 
+/// The kinds of record.
+// The names of `Record` without its fields: what a line is to be is defined over them.
 #[derive(Clone, Copy)]
 pub enum Kind {
     Row,

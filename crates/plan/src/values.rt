@@ -87,7 +87,7 @@ pub(crate) fn start(line: &[u8], i: usize) -> Result<(i64, i64), LineFault>
 }
 
 /// The keep-out of four entries and a threshold in field 7.
-pub(crate) fn keep_out(entries: Entries, threshold: &[u8]) -> Result<KeepOut, LineFault>
+fn keep_out(entries: Entries, threshold: &[u8]) -> Result<KeepOut, LineFault>
     ensures { shown plain_keep result ≡ keep_out_of entries.entry.a.now entries.entry.b.now entries.entry.c.now entries.entry.d.now threshold.now }
 {
     let entries = entries.numbers()?;
@@ -119,7 +119,7 @@ pub(crate) fn late<'a>(line: &'a [u8], expected: Expected) -> Result<Late<'a>, L
 }
 
 /// The steps in field 2.
-pub(crate) fn steps(count: &[u8]) -> Result<Steps, FieldFault>
+fn steps(count: &[u8]) -> Result<Steps, FieldFault>
     ensures { shown plain_steps result ≡ steps_of count.now }
 {
     let count = ranged(count, 2, 0, 256)?;

@@ -1,5 +1,5 @@
 //! The report writer: lines in a buffer of the caller's.
-ghost use Rattle.std.specs.Prelude.{◌≡◌, ℕ, ◌+◌, ◌^◌, ◌<◌, ◌≤◌, [], ◌∷◌, ◌++◌, length, take, drop, ℤ, Ok, codes, decimal, nat_le, unsigned_abs};
+ghost use Rattle.std.specs.Prelude.{◌≡◌, ℕ, ◌+◌, ◌^◌, ◌<◌, ◌≤◌, [], ◌∷◌, ◌++◌, length, take, drop, ℤ, Ok, Some, codes, decimal, nat_le, unsigned_abs};
 ghost use Rattle.std.specs.Fmt.{signed_decimal};
 ghost use Rattle.plan.specs.Numbers.{number_of};
 ghost use Rattle.plan.specs.Grammar.{tabs};
@@ -7,6 +7,8 @@ ghost use Rattle.plan.specs.Report as spec;
 
 use super::line::{Line, put_number, put_numbers};
 use super::told::Told;
+use std::error::Error;
+use std::fmt;
 
 /// A line does not fit into what is left of the buffer.
 #[derive(Clone, Copy, PartialEq, Eq, Debug)]
@@ -21,7 +23,18 @@ impl Full {
     }
 }
 
+impl fmt::Display for Full {
+    ghost output = { λ f. Some spec.full_text };
+
+    fn fmt<W: fmt::Write>(&self, f: &mut fmt::Formatter<W>) -> fmt::Result {
+        write!(f, "a line does not fit")
+    }
+}
+
+impl Error for Full {}
+
 /// The first `len` bytes of the buffer are the report so far.
+// A lent buffer with a length beside it: the project fixes this form.
 #[derive(Drop)]
 pub struct Writer<'a> {
     pub buf: &'a mut [u8],
@@ -101,9 +114,9 @@ impl<'a> Writer<'a> {
         ensures { result.now ≡ take self.now.len self.now.buf.now }
     {
         if self.len > self.buf.len() {
-            return &self.buf[0..self.buf.len()];
+            return &self.buf[..self.buf.len()];
         }
-        &self.buf[0..self.len]
+        &self.buf[..self.len]
     }
 
     /// Puts bytes that fit after what stands.

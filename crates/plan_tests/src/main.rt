@@ -16,8 +16,10 @@ const TABLE: u64 = 65536;
 
 /// The threshold of the last keep-out, or 0.
 fn last_threshold(keeps: &Keeps) -> i64 {
-    let last = keeps.count().checked_sub(1).and_then(|n| keeps.get(n));
-    last.map_or(0, |keep| keep.keep_out.threshold())
+    keeps
+        .as_slice()
+        .last()
+        .map_or(0, |keep| keep.keep_out.threshold())
 }
 
 /// Puts what a plan holds.
@@ -44,7 +46,7 @@ fn put_plan(out: &mut Writer, plan: &Plan) -> Result<(), Full> {
 
 /// Puts a line for each label.
 fn put_labels(out: &mut Writer, keeps: &Keeps) -> Result<(), Full> {
-    for keep in (0..keeps.count()).filter_map(|n| keeps.get(n)) {
+    for keep in keeps.as_slice() {
         out.clear(keep.label)?;
     }
     Ok(())

@@ -10,7 +10,6 @@ ghost use Rattle.plan.specs.Plans.{plan_of};
 ghost use Rattle.pointing.specs.Lines.{ends, step_text};
 ghost use Rattle.pointing.specs.Report.{form_text, later_text, reported, Refused};
 
-use anyhow::anyhow;
 use domains::domain::Domain;
 use domains::enclosure::{Interval, enclosure};
 use domains::interval_box::IntervalBox;
@@ -90,7 +89,7 @@ fn main(rt: HostRuntime) -> anyhow::Result<()> {
     rt.stdin().take(TEXT).read_to_end(&mut text)?;
     let mut page = [0u8; PAGE];
     let mut out = Writer::over(&mut page);
-    put_report(&mut out, &text).map_err(|_| anyhow!("the report does not fit"))?;
+    put_report(&mut out, &text)?;
     rt.stdout().write_all(out.text())?;
     Ok(())
 }

@@ -1,5 +1,4 @@
 mod Turns
-mod Listed
 mod Putting
 mod Told
 mod Found

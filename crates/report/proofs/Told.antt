@@ -1,9 +1,9 @@
 -- The lines that replies give, one by one.
-use Rattle.std.proofs.Common.{◌≡◌, ℕ, zero, suc, ◌+◌, ◌*◌, ◌^◌, ◌<◌, ◌≤◌, List, [], ◌∷◌, map, length, get_or, drop, ℤ, nat_abs, Some, None, Option, sym, refl, ap, ◌∙◌, subst, ap₂, ⊎_elim, arith}
+use Rattle.std.proofs.Common.{◌≡◌, ℕ, zero, suc, ◌+◌, ◌*◌, ◌^◌, ◌<◌, ◌≤◌, List, [], ◌∷◌, map, length, get_or, drop, ℤ, nat_abs, None, Option, sym, refl, ap, ◌∙◌, subst, ap₂, ⊎_elim, arith}
 use Rattle.std.proofs.lemmas.List.FromFn.{length-map-range_with_len, get_or-map-range_with_len}
 use Rattle.std.proofs.lemmas.List.{get_or-drop, get_or_past}
 use Rattle.std.proofs.lemmas.Bool.{cases_lt}
-use Rattle.std.specs.List.{range_with_len, slice_get}
+use Rattle.std.specs.List.{range_with_len}
 use Rattle.domains.specs.Meaning.{Answer}
 use Rattle.plan.specs.declared.keep.Keep.{Keep}
 use Rattle.tube.specs.declared.call.Reply.{Reply}
@@ -38,14 +38,12 @@ pub keeps_length : (ks : List Keep) (found : List Reply) → length (told_keeps 
 keeps_length [] found = refl
 keeps_length (k ∷ ks) found = ap suc (keeps_length ks (drop 1 found))
 
-pub keep_told : (ks : List Keep) (found : List Reply) (n : ℕ) (k : Keep) (label : List ℕ) (f : Finding)
-    → Some k ≡ slice_get ks n → label ≡ k.label.now → f ≡ finding_in (reply_at found n) → keep_text label f ≡ get_or (told_keeps ks found) n []
-keep_told [] found n k label f e p q = let z : ◌≡◌ {A = ℕ} 0 1 = cc in absurd (omega arith)
-keep_told (j ∷ ks) found zero k label f e p q =
-    let s : k ≡ j = cc in
-    ap₂ keep_text (p ∙ ap (λ (i : Keep). i.label.now) s) q
-keep_told (j ∷ ks) found (suc n) k label f e p q =
-    keep_told ks (drop 1 found) n k label f e p (q ∙ ap finding_in (sym (get_or-drop 1 found n Watched ∙ ap (λ (i : ℕ). get_or found i Watched) one)))
+pub keep_told : (ks : List Keep) (found : List Reply) (n : ℕ) (k : Keep) (f : Finding)
+    → n < length ks → k ≡ get_or ks n k → f ≡ finding_in (reply_at found n) → keep_text k.label.now f ≡ get_or (told_keeps ks found) n []
+keep_told [] found n k f h e q = absurd (omega (arith, h))
+keep_told (j ∷ ks) found zero k f h e q = ap₂ keep_text (ap (λ (i : Keep). i.label.now) e) q
+keep_told (j ∷ ks) found (suc n) k f h e q =
+    keep_told ks (drop 1 found) n k f (omega (arith, h)) e (q ∙ ap finding_in (sym (get_or-drop 1 found n Watched ∙ ap (λ (i : ℕ). get_or found i Watched) one)))
   where
     one : 1 + n ≡ suc n
     one = omega arith

@@ -33,6 +33,15 @@ PutsTask W lines before after (Ok u) = PutsAll lines before after (Ok u)
 PutsTask W lines before after (Err (fault.Line e)) = PutsAll lines before after (Err e)
 PutsTask W lines before after (Err fault.Memory) = W × (after.buf.now ≡ before.buf.now) × (after.len ≡ before.len)
 
+-- each of the two, into the buffer that was lent
+pub record PutsLines (all : List (List ℕ)) (before after : Writer) (result : Result (Unit {0}) Full) : Type 0 where
+  pub lent : SameBuffer before after
+  pub lines : PutsAll all before after result
+
+pub record PutsReport (W : Type 0) (all : List (List ℕ)) (before after : Writer) (result : Result (Unit {0}) Fault) : Type 0 where
+  pub lent : SameBuffer before after
+  pub lines : PutsTask W all before after result
+
 -- a page that holds lines: their bytes from its start on, and the rest as it was
 abbrev pub Holds : List (List ℕ) → List ℕ → List ℕ → Type 0
 Holds lines page page' = page' ≡ bytes lines ++ drop (length (bytes lines)) page

@@ -2,9 +2,9 @@
 ghost use Rattle.std.specs.Prelude.{◌≡◌, ℕ, ◌+◌, ◌*◌, ◌^◌, ◌≤◌, length, neg_ℤ, None, slice_index_or, unsigned_abs};
 ghost use Rattle.domains.specs.Meaning.{Answer};
 ghost use Rattle.plan.specs.Keeps.{kept_list};
-ghost use Rattle.plan.specs.Report.{Puts};
+ghost use Rattle.plan.specs.Report.{PutsLine};
 ghost use Rattle.report.specs.Lines as spec;
-ghost use Rattle.report.specs.Pages.{IsWithin, SameBuffer, PutsAll};
+ghost use Rattle.report.specs.Pages.{IsWithin, PutsLines};
 ghost use Rattle.report.specs.Replies.{Limited, told_steps, told_keeps};
 
 use super::answers::{bounds_at, finding_in};
@@ -44,8 +44,7 @@ fn ends(bounds: [Option<i64>; 8]) -> Option<[i64; 8]>
 /// Puts the line of a step, by its bounds on the signed axes.
 fn put_step(out: &mut Writer, step: usize, bounds: [Option<i64>; 8]) -> Result<(), Full>
     requires { (a : ℕ) → Answer (slice_index_or bounds a None) (λ b. unsigned_abs b ≤ 2 ^ 52) }
-    ensures lent { SameBuffer out.old out.new }
-    ensures line { Puts (spec.step_text step (spec.ends (λ a. slice_index_or bounds a None))) out.old out.new result }
+    ensures { PutsLine (spec.step_text step (spec.ends (λ a. slice_index_or bounds a None))) out.old out.new result }
 {
     match ends(bounds) {
         None => out.unbounded(step),
@@ -55,8 +54,7 @@ fn put_step(out: &mut Writer, step: usize, bounds: [Option<i64>; 8]) -> Result<(
 
 /// Puts the line of a keep-out.
 fn put_keep(out: &mut Writer, label: &[u8], finding: Finding) -> Result<(), Full>
-    ensures lent { SameBuffer out.old out.new }
-    ensures line { Puts (spec.keep_text label.now finding) out.old out.new result }
+    ensures { PutsLine (spec.keep_text label.now finding) out.old out.new result }
 {
     match finding {
         Finding::Clear => out.clear(label),
@@ -70,8 +68,7 @@ pub(crate) fn put_steps(out: &mut Writer, answers: &[Reply], steps: usize) -> Re
     requires room { IsWithin out.old }
     requires whole { 9 * steps + 8 ≤ length answers.now }
     requires limited { Limited answers.now }
-    ensures lent { SameBuffer out.old out.new }
-    ensures lines { PutsAll (told_steps answers.now steps) out.old out.new result }
+    ensures { PutsLines (told_steps answers.now steps) out.old out.new result }
 {
     // a step's bounds are cut by place: the library has no lemma on `chunks`
     for step in 0..steps + 1 {
@@ -84,13 +81,9 @@ pub(crate) fn put_steps(out: &mut Writer, answers: &[Reply], steps: usize) -> Re
 pub(crate) fn put_keeps(out: &mut Writer, keeps: &Keeps, found: &[Reply]) -> Result<(), Full>
     requires room { IsWithin out.old }
     requires whole { length found.now ≡ length (kept_list keeps.now) }
-    ensures lent { SameBuffer out.old out.new }
-    ensures lines { PutsAll (told_keeps (kept_list keeps.now) found.now) out.old out.new result }
+    ensures { PutsLines (told_keeps (kept_list keeps.now) found.now) out.old out.new result }
 {
-    for (n, reply) in found.iter().enumerate() {
-        let Some(keep) = keeps.get(n) else {
-            unreachable()
-        };
+    for (keep, reply) in keeps.as_slice().iter().zip(found) {
         put_keep(out, keep.label, finding_in(*reply))?;
     }
     Ok(())

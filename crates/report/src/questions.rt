@@ -57,7 +57,7 @@ pub(crate) fn keep_outs(heap: Global, keeps: &Keeps) -> Result<Vec<KeepOut>, All
     ensures { IfOk result (λ v. v.items ≡ map (λ k. k.keep_out) (kept_list keeps.now)) }
 {
     let mut list = Vec::new(heap);
-    while let Some(keep) = keeps.get(list.len()) {
+    for keep in keeps.as_slice() {
         list.push(keep.keep_out)?;
     }
     Ok(list)

@@ -1,10 +1,10 @@
 //! A plan's report, from the bytes of its text to the bytes on a page.
-ghost use Rattle.std.specs.Prelude.{◌≡◌, ◌+◌, ◌*◌, ◌≤◌, length, IfOk, vec_len};
+ghost use Rattle.std.specs.Prelude.{◌≡◌, ◌+◌, ◌*◌, ◌≤◌, length, IfOk};
 ghost use Rattle.plan.specs.Keeps.{kept_list};
-ghost use Rattle.plan.specs.Report.{Puts, refused_line};
+ghost use Rattle.plan.specs.Report.{PutsLine, refused_line};
 ghost use Rattle.plan.specs.Plans.{Sheet, plan_of};
 ghost use Rattle.plan.specs.Spelling.{Answers, Spells};
-ghost use Rattle.report.specs.Pages.{IsWithin, SameBuffer, PutsAll, PutsTask, Printed, Roomy, page_size};
+ghost use Rattle.report.specs.Pages.{IsWithin, SameBuffer, PutsLines, PutsTask, PutsReport, Printed, Roomy, page_size};
 ghost use Rattle.report.specs.Replies.{Limited, told_lines, keep_outs, plan_replies};
 ghost use Rattle.report.specs.Report.{lines_over, bytes};
 ghost use Rattle.report.specs.Reports.{Reports};
@@ -30,26 +30,16 @@ use zonotope::zonotope::Zonotope;
 /// bytes, and 16 lines of a keep-out of at most 27.
 pub const PAGE: usize = 40000;
 
-/// What a tube replied, and where the replies to its calls begin, after those to the watches.
-#[derive(Drop)]
-struct Replies {
-    list: Vec<Reply>,
-    at: usize,
-    ghost within: { at ≤ vec_len list },
-}
-
 /// Follows a plan over a domain: its keep-outs are watched, and the questions of a report asked.
 fn follow_plan<D: Domain + Drop>(
     heap: Global,
     plan: &Plan,
     domain: D,
-) -> Result<Replies, AllocError>
-    ensures list { IfOk result (λ o. o.list.items ≡ plan_replies D.sense (D.form domain) plan.now) }
-    ensures at { IfOk result (λ o. o.at ≡ length (keep_outs plan.now)) }
+) -> Result<Vec<Reply>, AllocError>
+    ensures { IfOk result (λ v. v.items ≡ plan_replies D.sense (D.form domain) plan.now) }
 {
     let watches = keep_outs(heap, &plan.keeps)?;
-    let at = watches.len();
-    let calls = questions(heap, plan.steps.count(), at)?;
+    let calls = questions(heap, plan.steps.count(), watches.len())?;
     let Followed { replies, .. } = follow(
         heap,
         plan.model,
@@ -58,7 +48,7 @@ fn follow_plan<D: Domain + Drop>(
         watches.as_slice(),
         calls.as_slice(),
     )?;
-    Ok(Replies { list: replies, at })
+    Ok(replies)
 }
 
 /// Puts the lines of a plan's report, by the answers of its tube to the questions.
@@ -66,8 +56,7 @@ fn put_lines(out: &mut Writer, plan: &Plan, answers: &[Reply]) -> Result<(), Ful
     requires room { IsWithin out.old }
     requires whole { 9 * plan.now.steps.count + 8 + length (kept_list plan.now.keeps) ≡ length answers.now }
     requires limited { Limited answers.now }
-    ensures lent { SameBuffer out.old out.new }
-    ensures lines { PutsAll (told_lines (kept_list plan.now.keeps) answers.now plan.now.steps.count) out.old out.new result }
+    ensures { PutsLines (told_lines (kept_list plan.now.keeps) answers.now plan.now.steps.count) out.old out.new result }
 {
     let steps = plan.steps.count();
     put_steps(out, answers, steps)?;
@@ -82,18 +71,17 @@ fn put_plan<D: Domain + Drop>(
     domain: D,
 ) -> Result<(), Fault>
     requires room { IsWithin out.old }
-    ensures lent { SameBuffer out.old out.new }
-    ensures lines { PutsTask (Unit {0}) (lines_over D.sense (D.form domain) (plan_task plan.now)) out.old out.new result }
+    ensures { PutsReport (Unit {0}) (lines_over D.sense (D.form domain) (plan_task plan.now)) out.old out.new result }
 {
     let replies = follow_plan(heap, plan, domain)?;
-    put_lines(out, plan, &replies.list[replies.at..])?;
+    // the replies to the watches come first
+    put_lines(out, plan, &replies[plan.keeps.count()..])?;
     Ok(())
 }
 
 /// Puts the one line of a refusal. It has at most 92 bytes.
 fn put_refusal(out: &mut Writer, told: Told) -> Result<(), Full>
-    ensures lent { SameBuffer out.old out.new }
-    ensures line { Puts (refused_line told) out.old out.new result }
+    ensures put { PutsLine (refused_line told) out.old out.new result }
     ensures short { length (refused_line told) ≤ 92 }
 {
     out.refused(told)

@@ -8,22 +8,8 @@ use domains::enclosure::Interval;
 pub fn intervals(ends: [i64; 8]) -> Option<[Interval; 4]>
     ensures { result ≡ Some (spec.intervals ends) }
 {
-    Some([
-        Interval {
-            low: ends[0],
-            high: ends[1],
-        },
-        Interval {
-            low: ends[2],
-            high: ends[3],
-        },
-        Interval {
-            low: ends[4],
-            high: ends[5],
-        },
-        Interval {
-            low: ends[6],
-            high: ends[7],
-        },
-    ])
+    Some(std::array::from_fn(|i| Interval {
+        low: ends[2 * i],
+        high: ends[2 * i + 1],
+    }))
 }

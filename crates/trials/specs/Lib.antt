@@ -7,3 +7,4 @@ pub mod Seen
 pub mod Texts
 pub mod Verdicts
 pub mod Walks
+pub mod Troubles

@@ -17,6 +17,7 @@ use tube::opened::Opened;
 fn at_rest() -> Result<Opened<IntervalBox>, Refusal>
     ensures { IfOk result (λ t. t.table.count ≡ 0) }
 {
+    // Not the samples' calm model: what that refuses is a test's failure, and no refusal.
     let calm = Channel {
         gains: [0; 4],
         centre: 0,
@@ -38,7 +39,7 @@ fn check_limit<F: FnMut(usize) -> Option<Fault>>(
     ensures { total result ≡ accepted + 1 }
 {
     let mut marks = Marks::default();
-    for n in 0..accepted + 1 {
+    for n in 0..=accepted {
         marks.mark(Some(call(n) == (n == accepted).then_some(fault)));
     }
     marks

@@ -55,7 +55,7 @@ fn check_step<D: Domain>(
 {
     let mut tally = Tally::default();
     for direction in directions {
-        tally = tally + check_bound(direction, tube.bound(direction), walks, step);
+        tally += check_bound(direction, tube.bound(direction), walks, step);
     }
     tally
 }
@@ -83,7 +83,7 @@ fn check_findings<D: Domain>(
                 entered: count_entering(keep_out, walks),
                 ..Tally::default()
             };
-            tally = tally + clear;
+            tally += clear;
         }
     }
     Ok(tally)
@@ -110,7 +110,7 @@ pub fn check_domain<D: Domain + Drop>(domain: D, case: &Case) -> Result<Tally, F
     let mut tally = check_step(&tube, &case.directions, &case.walks, 0);
     for step in 1..=STEPS {
         tube.step()?;
-        tally = tally + check_step(&tube, &case.directions, &case.walks, step);
+        tally += check_step(&tube, &case.directions, &case.walks, step);
     }
     let found = check_findings(&tube, &case.keep_outs, &case.walks)?;
     tube.finish();

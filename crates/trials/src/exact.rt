@@ -11,6 +11,8 @@ use dynamics::start::Start;
 fn product<const N: usize>(l: [i128; N], x: [i64; N]) -> Option<i128>
     ensures { IfSome result (λ z. z ≡ sum N (λ i. part l.entry i *ℤ part x.entry i)) }
 {
+    // 128 bits and checked: the kernel's product is of 64 bits and wraps. A loop, here and below: the
+    // check reads no closure in a function that is generic in a number.
     let mut sum = 0i128;
     for (entry, part) in l.iter().zip(&x) {
         sum = sum.checked_add(entry.checked_mul(i128::from(*part))?)?;

@@ -1,6 +1,7 @@
 //! The kinds of plans that are tried, and the limits of their numbers.
-ghost use Rattle.std.specs.Prelude.{◌≡◌, ◌^◌, pos, ◌≤ℤ◌, Some};
+ghost use Rattle.std.specs.Prelude.{◌≡◌, ◌^◌, pos, Some};
 ghost use Rattle.trials.specs.Kinds.{name, whole, tame, lead_size, other_size, gain_size, gust_size, start_size};
+ghost use Rattle.trials.specs.Random.{UpTo};
 
 use std::fmt;
 
@@ -54,8 +55,7 @@ impl Kind {
     /// The size of the leading entry of each row, or 0 where none leads.
     pub fn lead(self) -> i64
         ensures value { result ≡ pos (lead_size self) }
-        ensures low { pos 0 ≤ℤ result }
-        ensures high { result ≤ℤ pos (2 ^ 20) }
+        ensures range { UpTo (pos (2 ^ 20)) result }
     {
         match self {
             Kind::Neutral => 4096,
@@ -67,8 +67,7 @@ impl Kind {
     /// The greatest size of the other entries, before they are made whole.
     pub fn others(self) -> i64
         ensures value { result ≡ pos (other_size self) }
-        ensures low { pos 0 ≤ℤ result }
-        ensures high { result ≤ℤ pos (2 ^ 20) }
+        ensures range { UpTo (pos (2 ^ 20)) result }
     {
         match self {
             Kind::Contracting | Kind::FarStarts | Kind::StrongGusts => 900,
@@ -82,8 +81,7 @@ impl Kind {
     /// The greatest size of the gains, before they are made whole.
     pub fn gains(self) -> i64
         ensures value { result ≡ pos (gain_size self) }
-        ensures low { pos 0 ≤ℤ result }
-        ensures high { result ≤ℤ pos (2 ^ 20) }
+        ensures range { UpTo (pos (2 ^ 20)) result }
     {
         match self {
             Kind::Whole => 1,
@@ -95,8 +93,7 @@ impl Kind {
     /// The greatest size of a gust.
     pub fn gusts(self) -> i64
         ensures value { result ≡ pos (gust_size self) }
-        ensures low { pos 0 ≤ℤ result }
-        ensures high { result ≤ℤ pos (2 ^ 24) }
+        ensures range { UpTo (pos (2 ^ 24)) result }
     {
         match self {
             Kind::Whole => 4,
@@ -109,8 +106,7 @@ impl Kind {
     /// The greatest size of a part at the start.
     pub fn start(self) -> i64
         ensures value { result ≡ pos (start_size self) }
-        ensures low { pos 0 ≤ℤ result }
-        ensures high { result ≤ℤ pos (2 ^ 30) }
+        ensures range { UpTo (pos (2 ^ 30)) result }
     {
         match self {
             Kind::Whole => 20,

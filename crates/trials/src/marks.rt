@@ -2,7 +2,7 @@
 ghost use Rattle.std.specs.Prelude.{◌≡◌, ◌+◌, ◌^◌, ◌≤◌};
 ghost use Rattle.trials.specs.Counts.{marked, total};
 
-use std::ops::Add;
+use std::ops::{Add, AddAssign};
 
 /// Comparisons that held, that failed, and that could not be made.
 #[derive(Clone, Copy, Default)]
@@ -41,5 +41,15 @@ impl Add for Marks {
             failed: self.failed + other.failed,
             unmade: self.unmade + other.unmade,
         }
+    }
+}
+
+impl AddAssign for Marks {
+    ghost can_add_assign = { λ a b. (total a ≤ 2 ^ 40) × (total b ≤ 2 ^ 40) };
+
+    ghost add_assign_gives = { λ a b r. (r.held ≡ a.held + b.held) × (r.failed ≡ a.failed + b.failed) × (r.unmade ≡ a.unmade + b.unmade) };
+
+    fn add_assign(&mut self, other: Marks) {
+        *self = *self + other;
     }
 }

@@ -1,6 +1,6 @@
 //! Numbers drawn from a fixed seed, so that the program does the same each time.
-ghost use Rattle.std.specs.Prelude.{◌≡◌, ◌+◌, ◌*◌, ◌/◌, ◌^◌, ◌<◌, ◌≤◌, length, pos, ◌-ℤ◌, ◌≤ℤ◌, unsigned_abs};
-ghost use Rattle.trials.specs.Random.{next, Drawable};
+ghost use Rattle.std.specs.Prelude.{◌≡◌, ◌+◌, ◌*◌, ◌/◌, ◌^◌, ◌<◌, ◌≤◌, length, pos, ◌-ℤ◌, unsigned_abs};
+ghost use Rattle.trials.specs.Random.{next, Drawable, UpTo};
 
 /// A linear congruential generator.
 #[derive(Drop)]
@@ -37,8 +37,8 @@ impl Random {
 
     /// A number from 0 to `most`.
     pub fn up_to(&mut self, most: i64) -> i64
-        requires { (pos 0 ≤ℤ most) × (most ≤ℤ pos (2 ^ 30)) }
-        ensures { (pos 0 ≤ℤ result) × (result ≤ℤ most) }
+        requires { UpTo (pos (2 ^ 30)) most }
+        ensures { UpTo most result }
     {
         self.below(most as u64 + 1) as i64
     }
@@ -53,7 +53,7 @@ impl Random {
 
     /// A number within `±most`, at one of its ends every other time.
     pub fn within(&mut self, most: i64) -> i64
-        requires { (pos 0 ≤ℤ most) × (most ≤ℤ pos (2 ^ 30)) }
+        requires { UpTo (pos (2 ^ 30)) most }
         ensures { unsigned_abs result ≤ unsigned_abs most }
     {
         let size = if self.below(2) == 0 {

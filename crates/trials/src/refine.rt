@@ -54,7 +54,7 @@ pub fn check_refined(case: &Case) -> Marks
         product.advance(&case.model);
         left.advance(&case.model);
         right.advance(&case.model);
-        marks = marks + compare(&product, &left, &right, &case.directions);
+        marks += compare(&product, &left, &right, &case.directions);
     }
     marks
 }

@@ -3,6 +3,7 @@ ghost use Rattle.std.specs.Prelude.{◌≡◌, ℕ, ◌+◌, ◌*◌, ◌%◌, �
 ghost use Rattle.arith.specs.Sums.{part, entry};
 ghost use Rattle.dynamics.specs.Values.{middle, radius, centre, width, along};
 ghost use Rattle.trials.specs.Kinds.{gust_size, start_size};
+ghost use Rattle.trials.specs.Random.{UpTo};
 
 use super::kind::Kind;
 use super::random::Random;
@@ -23,7 +24,7 @@ struct Pair {
 
 /// A centre and a radius that together have at most the size `limit`.
 fn draw_pair(random: &mut Random, limit: i64) -> Pair
-    requires { (pos 0 ≤ℤ limit) × (limit ≤ℤ pos (2 ^ 30)) }
+    requires { UpTo (pos (2 ^ 30)) limit }
     ensures { (pos 0 ≤ℤ result.radius) × (unsigned_abs result.centre + unsigned_abs result.radius ≤ unsigned_abs limit) }
 {
     let radius = random.up_to(limit);
@@ -33,7 +34,7 @@ fn draw_pair(random: &mut Random, limit: i64) -> Pair
 
 /// A number within `±limit`, times 4096 where it is to be whole.
 fn draw_entry(random: &mut Random, limit: i64, whole: bool) -> i64
-    requires { (pos 0 ≤ℤ limit) × (limit ≤ℤ pos (2 ^ 20)) }
+    requires { UpTo (pos (2 ^ 20)) limit }
     ensures size { unsigned_abs result ≤ 4096 * unsigned_abs limit }
 {
     let entry = random.within(limit);
@@ -42,7 +43,7 @@ fn draw_entry(random: &mut Random, limit: i64, whole: bool) -> i64
 
 /// Four such numbers.
 fn draw_entries(random: &mut Random, limit: i64, whole: bool) -> [i64; 4]
-    requires { (pos 0 ≤ℤ limit) × (limit ≤ℤ pos (2 ^ 20)) }
+    requires { UpTo (pos (2 ^ 20)) limit }
     ensures { (i : ℕ) → i < 4 → unsigned_abs (part result i) ≤ 4096 * unsigned_abs limit }
 {
     let mut entries = [0; 4];
@@ -113,8 +114,9 @@ pub fn draw_start(random: &mut Random, kind: Kind) -> Result<Start, Refusal>
 
 /// The greatest size of a direction's entries: one of three.
 fn draw_size(random: &mut Random) -> i64
-    ensures { (pos 0 ≤ℤ result) × (result ≤ℤ pos (2 ^ 20)) }
+    ensures { UpTo (pos (2 ^ 20)) result }
 {
+    // By match, here and below: an array read at a drawn index is no plainer.
     match random.below(3) {
         0 => 3,
         1 => 1000,
@@ -132,7 +134,7 @@ pub fn draw_direction(random: &mut Random) -> Result<Direction, Refusal>
 
 /// How far a keep-out lies beyond the start: little, more or much.
 fn draw_gap(random: &mut Random) -> i64
-    ensures { (pos 0 ≤ℤ result) × (result ≤ℤ pos (2 ^ 30)) }
+    ensures { UpTo (pos (2 ^ 30)) result }
 {
     let most = match random.below(3) {
         0 => 100,

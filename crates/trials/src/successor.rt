@@ -17,7 +17,8 @@ fn image(model: &Model, x: [i64; 4], gusts: [i64; 2]) -> [i64; 4]
 {
     let turned = times_column(model.matrix(), x);
     let pushed = times_column(model.gains(), gusts);
-    // Written out, here and below: a loop by index over two arrays is no shorter.
+    // Written out, here and below: a loop by index over two arrays is no shorter, and with `from_fn`
+    // the search alone leaves the range of the sums open.
     [
         turned[0] + pushed[0],
         turned[1] + pushed[1],

@@ -70,9 +70,9 @@ pub fn check_tight(case: &Case) -> Marks
     let mut zonotope = Zonotope::new();
     zonotope.fill(&case.start);
     let mut marks = check_directions(&zonotope, case, 0);
-    for k in 0..COMPARED {
+    for k in 1..=COMPARED {
         zonotope.advance(&case.model);
-        marks = marks + check_directions(&zonotope, case, k + 1);
+        marks += check_directions(&zonotope, case, k);
     }
     marks
 }

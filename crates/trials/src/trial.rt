@@ -30,12 +30,13 @@ pub struct Outcome {
 pub fn try_kind(heap: Global, kind: Kind, random: &mut Random) -> Result<Outcome, Trouble>
     ensures { IfOk result (λ o. (looked o.tally ≡ 218400) × (total o.tight ≡ 14400) × (total o.refined ≡ 62400)) }
 {
+    // The generator is lent apart from heap and kind: it outlives them and serves all kinds.
     let mut outcome = Outcome::default();
     for _ in 0..PLANS {
         let case = Case::draw(heap, kind, random)?;
-        outcome.tally = outcome.tally + check_stacks(&case)?;
-        outcome.tight = outcome.tight + check_tight(&case);
-        outcome.refined = outcome.refined + check_refined(&case);
+        outcome.tally += check_stacks(&case)?;
+        outcome.tight += check_tight(&case);
+        outcome.refined += check_refined(&case);
         outcome.states = outcome.states.saturating_add(count_states(&case.walks));
     }
     Ok(outcome)

@@ -1,26 +1,43 @@
 //! Why a trial could not be made or run.
-ghost use Rattle.std.specs.Prelude.{◌≡◌};
+ghost use Rattle.std.specs.Prelude.{◌≡◌, Some};
 ghost use Rattle.trials.specs.declared.trouble.Trouble.TheVariants.{Memory, Numbers, Call};
+ghost use Rattle.trials.specs.Troubles.{trouble_text};
 
 use dynamics::refusal::Refusal;
 use std::alloc::{AllocError, AllocFailed};
+use std::error::Error;
+use std::fmt;
 use tube::fault::Fault;
 
-#[derive(Clone, Copy)]
+#[derive(Clone, Copy, PartialEq, Eq, Debug)]
 pub enum Trouble {
     /// No memory.
     Memory,
     /// Numbers that make no plan.
-    Numbers,
+    Numbers(Refusal),
     /// A call of a tube was refused.
-    Call,
+    Call(Fault),
 }
 
-impl From<Refusal> for Trouble {
-    ghost from_gives = { λ _ r. r ≡ Numbers };
+impl fmt::Display for Trouble {
+    ghost output = { λ t. Some (trouble_text t) };
 
-    fn from(_e: Refusal) -> Trouble {
-        Trouble::Numbers
+    fn fmt<W: fmt::Write>(&self, f: &mut fmt::Formatter<W>) -> fmt::Result {
+        match self {
+            Trouble::Memory => write!(f, "no memory"),
+            Trouble::Numbers(refusal) => write!(f, "no plan: {refusal}"),
+            Trouble::Call(fault) => write!(f, "a refused call: {fault}"),
+        }
+    }
+}
+
+impl Error for Trouble {}
+
+impl From<Refusal> for Trouble {
+    ghost from_gives = { λ e r. r ≡ Numbers e };
+
+    fn from(e: Refusal) -> Trouble {
+        Trouble::Numbers(e)
     }
 }
 
@@ -41,9 +58,9 @@ impl<T: Drop> From<AllocFailed<T>> for Trouble {
 }
 
 impl From<Fault> for Trouble {
-    ghost from_gives = { λ _ r. r ≡ Call };
+    ghost from_gives = { λ e r. r ≡ Call e };
 
-    fn from(_e: Fault) -> Trouble {
-        Trouble::Call
+    fn from(e: Fault) -> Trouble {
+        Trouble::Call(e)
     }
 }

@@ -36,7 +36,8 @@ fn draw_about<const N: usize>(
     ensures { (i : ℕ) → i < N → unsigned_abs (part result i -ℤ part centres.entry i) ≤ unsigned_abs (part radii.entry i) }
 {
     let mut parts = centres;
-    // By index: of what is written through a zip the check knows nothing.
+    // By index: of what is written through a zip the check knows nothing, and it reads no closure in a
+    // function that is generic in a number.
     for i in 0..N {
         parts[i] = random.about(centres[i], radii[i], at_end);
     }

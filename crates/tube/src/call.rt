@@ -11,6 +11,7 @@ pub enum Call {
 }
 
 /// The answer of a watch or a call.
+// No Result: a refusal is one of the answers that a list of calls may get, and the list goes on.
 #[derive(Clone, Copy, PartialEq, Eq, Debug)]
 pub enum Reply {
     Watched,

@@ -60,6 +60,7 @@ fn watch_all<D: Domain>(
     ensures replies { OnOk result (replies.new.items
         ≡ replies.old.items ++ watch_replies (table_of tube.old.table) watches.now) }
 {
+    // A loop here and one below: over a closure the tube's state would have no name in the contract.
     for keep_out in watches {
         let reply = watch_one(tube, keep_out);
         replies.push(reply)?;

@@ -15,6 +15,7 @@ fn must_open<D: Domain>(domain: &D, row: Row) -> bool
     if !row.finding.is_clear() {
         return false;
     }
+    // By `let .. else`: the project fixes this form.
     let Ok(direction) = Direction::new(row.entries) else {
         return true;
     };

@@ -5,6 +5,7 @@ ghost use Rattle.tube.specs.Rows.{opened, row_of};
 use super::finding::Finding;
 use dynamics::keep_out::KeepOut;
 
+// Plain numbers and no keep-out: the project fixes this form.
 #[derive(Clone, Copy)]
 pub(crate) struct Row {
     pub(crate) entries: [i64; 4],

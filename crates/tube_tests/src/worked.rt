@@ -2,12 +2,43 @@
 use super::tubes::beyond;
 use domains::interval_box::IntervalBox;
 use samples::values::{direction, worked_model, worked_start};
+use std::process::Abort;
 use std::test::Fail;
 use tube::call::{Call, Reply};
 use tube::fault::Fault;
 use tube::finding::Finding;
 use tube::follow::follow;
 use tube::summary::Summary;
+
+/// The replies about the thresholds, before the step and after it.
+fn check_thresholds(rt: &impl Abort, replies: &[Reply]) {
+    assert_eq!(rt; replies.len(), 14);
+    assert_eq!(rt; replies.get(4).copied(), Some(Reply::Watched));
+    assert_eq!(rt; replies.get(5).copied(), Some(Reply::Found(Finding::Clear)));
+    assert_eq!(rt;
+        replies.get(6).copied(),
+        Some(Reply::Found(Finding::Open { step: 0 }))
+    );
+    assert_eq!(rt; replies.get(7).copied(), Some(Reply::Stepped));
+    assert_eq!(rt; replies.get(8).copied(), Some(Reply::Found(Finding::Clear)));
+    assert_eq!(rt; replies.get(9).copied(), Some(Reply::Found(Finding::Clear)));
+    assert_eq!(rt;
+        replies.get(10).copied(),
+        Some(Reply::Found(Finding::Open { step: 1 }))
+    );
+    assert_eq!(rt;
+        replies.get(11).copied(),
+        Some(Reply::Found(Finding::Open { step: 1 }))
+    );
+    assert_eq!(rt;
+        replies.get(12).copied(),
+        Some(Reply::Found(Finding::Open { step: 0 }))
+    );
+    assert_eq!(rt;
+        replies.get(13).copied(),
+        Some(Reply::Refused(Fault::NoKeepOut))
+    );
+}
 
 #[test]
 fn thresholds_about_a_bound(rt: HostRuntime) -> Result<(), Fail> {
@@ -37,33 +68,7 @@ fn thresholds_about_a_bound(rt: HostRuntime) -> Result<(), Fail> {
         &watches,
         &calls,
     )?;
-    let replies = &told.replies;
-    assert_eq!(rt; replies.len(), 14);
-    assert_eq!(rt; replies.get(4).copied(), Some(Reply::Watched));
-    assert_eq!(rt; replies.get(5).copied(), Some(Reply::Found(Finding::Clear)));
-    assert_eq!(rt;
-        replies.get(6).copied(),
-        Some(Reply::Found(Finding::Open { step: 0 }))
-    );
-    assert_eq!(rt; replies.get(7).copied(), Some(Reply::Stepped));
-    assert_eq!(rt; replies.get(8).copied(), Some(Reply::Found(Finding::Clear)));
-    assert_eq!(rt; replies.get(9).copied(), Some(Reply::Found(Finding::Clear)));
-    assert_eq!(rt;
-        replies.get(10).copied(),
-        Some(Reply::Found(Finding::Open { step: 1 }))
-    );
-    assert_eq!(rt;
-        replies.get(11).copied(),
-        Some(Reply::Found(Finding::Open { step: 1 }))
-    );
-    assert_eq!(rt;
-        replies.get(12).copied(),
-        Some(Reply::Found(Finding::Open { step: 0 }))
-    );
-    assert_eq!(rt;
-        replies.get(13).copied(),
-        Some(Reply::Refused(Fault::NoKeepOut))
-    );
+    check_thresholds(&rt, &told.replies);
     assert_eq!(rt;
         told.summary,
         Summary {

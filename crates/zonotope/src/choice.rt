@@ -9,7 +9,7 @@ pub(crate) fn longest(generator: [i64; 4]) -> usize
     ensures value { result ≡ spec.longest generator }
     ensures first { spec.FirstGreatest 4 (size generator) result }
 {
-    // The loop counts places, since a place is what it answers.
+    // Counted: `min_by_key` wants a closure with conditions, and a law by recursion that std lacks.
     let mut best = 0;
     for i in 1..4 {
         if generator[i].unsigned_abs() > generator[best].unsigned_abs() {
@@ -35,7 +35,7 @@ pub(crate) fn lightest(generators: &[[i64; 4]]) -> usize
     ensures value { result ≡ spec.lightest generators.now }
     ensures first { spec.FirstLeast (length generators.now) (spec.weights generators.now) result }
 {
-    // The loop counts places, since a place is what it answers.
+    // Counted: `min_by_key` wants a closure with conditions, and a law by recursion that std lacks.
     let mut best = 0;
     let mut least = weight(generators[0]);
     for i in 1..generators.len() {

@@ -21,6 +21,7 @@ pub(crate) struct Folding {
 }
 
 impl Folding {
+    // here, since one of these words names this file's struct
     ghost use Rattle.std.specs.Option.{option_map};
     ghost use Rattle.zonotope.specs.Choice as choice;
     ghost use Rattle.zonotope.specs.Fold as spec;

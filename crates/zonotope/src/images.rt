@@ -54,7 +54,7 @@ fn add_columns<const N: usize>(images: &mut Generators, matrix: [[i64; N]; 4], c
     ensures list { standing images.new ≡ standing images.old ++ spec.columns N (entry matrix.entry) (size counts.entry) }
     ensures len { images.new.len ≡ images.old.len + N }
 {
-    // A number and its column have one place, which the loop counts.
+    // Counted: the check reads no closure in a function that is generic in a number.
     for j in 0..N {
         let mut arm = [0; N];
         arm[j] = counts[j];

@@ -52,6 +52,7 @@ fn moved(model: &Model, stored: &Stored) -> Folding
 fn narrow_spread(folding: &Folding) -> Option<Radii>
     ensures { parts_of result ≡ narrowed folding.now.spread }
 {
+    // `then` is no plainer: its closure would need a clause that the parts are narrow.
     let parts = folding.spread?;
     if is_narrow(parts) {
         Some(Radii { parts })

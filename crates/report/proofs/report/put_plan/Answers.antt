@@ -1,7 +1,8 @@
-use Rattle.std.proofs.Common.{◌≡◌, ℕ, List, length, drop, Ok, Err, Result, sym, ap, ◌∙◌, subst}
-use Rattle.std.proofs.lemmas.List.{take_rest}
+use Rattle.std.proofs.Common.{◌≡◌, ℕ, List, length, drop, Ok, Err, Result, sym, ap, ◌∙◌, subst, arith}
+use Rattle.std.proofs.lemmas.List.{take_rest, length-map, length-drop}
 use Rattle.std.proofs.lemmas.Result.{err_from_is_err_and}
 use Rattle.tube.specs.declared.call.Reply.{Reply}
+use Rattle.plan.specs.declared.keep.Keep.{Keep}
 use Rattle.plan.specs.declared.plan.Plan.{Plan}
 use Rattle.plan.specs.declared.writer.Full.{Full}
 use Rattle.plan.specs.declared.writer.Writer.{Writer}
@@ -21,9 +22,26 @@ put_same p e l before after r h =
 answers_from : {rs rs' : List Reply} {at at' : ℕ} → rs ≡ rs' → at ≡ at' → drop at rs ≡ drop at' rs'
 answers_from e q = λ i. drop (q i) (e i)
 
+-- the watches' replies are no more than all
+pub slice_bounds-put_lines-count : goal.slice_bounds-put_lines-count
+slice_bounds-put_lines-count g c =
+    let laws = g.met.D.Domain.lawful in
+    let f = g.D.Domain.form c.args.domain in
+    let fits = g.met.D.Domain.kept c.args.domain in
+    let e = answers_from (c.deref.ensures.value ∙ c.in_ok-replies.ensures) (c.count.ensures.items ∙ sym (length-map (kept_list c.args.plan.now.keeps) (λ (k : Keep). k.keep_out))) in
+    omega (arith, answers-length laws f fits c.args.plan.now, ap length e, length-drop c.count.result c.deref.result.now)
+
+pub slice_bounds-put_lines-start : goal.slice_bounds-put_lines-start
+slice_bounds-put_lines-start g c =
+    let laws = g.met.D.Domain.lawful in
+    let f = g.D.Domain.form c.args.domain in
+    let fits = g.met.D.Domain.kept c.args.domain in
+    let e = answers_from (c.deref.ensures.value ∙ c.in_ok-replies.ensures) (c.count.ensures.items ∙ sym (length-map (kept_list c.args.plan.now.keeps) (λ (k : Keep). k.keep_out))) in
+    omega (arith, answers-length laws f fits c.args.plan.now, ap length e, length-drop c.count.result c.deref.result.now)
+
 pub put_lines-requires : goal.put_lines-requires
 put_lines-requires g c =
-    let e = take_rest c.deref.result.now c.in_ok-replies.replies.at ∙ answers_from (c.deref.ensures.value ∙ c.in_ok-replies.ensures.list) c.in_ok-replies.ensures.at in
+    let e = take_rest c.deref.result.now c.count.result ∙ answers_from (c.deref.ensures.value ∙ c.in_ok-replies.ensures) (c.count.ensures.items ∙ sym (length-map (kept_list c.args.plan.now.keeps) (λ (k : Keep). k.keep_out))) in
     let laws = g.met.D.Domain.lawful in
     let f = g.D.Domain.form c.args.domain in
     let fits = g.met.D.Domain.kept c.args.domain in
@@ -36,7 +54,7 @@ put_lines-requires g c =
 -- the lines of the answers are those of the report
 pub returns-in_err-put_lines : goal.returns-in_err-put_lines
 returns-in_err-put_lines g c =
-    let e = take_rest c.deref.result.now c.in_ok-replies.replies.at ∙ answers_from (c.deref.ensures.value ∙ c.in_ok-replies.ensures.list) c.in_ok-replies.ensures.at in
+    let e = take_rest c.deref.result.now c.count.result ∙ answers_from (c.deref.ensures.value ∙ c.in_ok-replies.ensures) (c.count.ensures.items ∙ sym (length-map (kept_list c.args.plan.now.keeps) (λ (k : Keep). k.keep_out))) in
     let f = g.D.Domain.form c.args.domain in
     let l = lines_are g.met.D.Domain.lawful f (g.met.D.Domain.kept c.args.domain) c.args.plan.now in
     let p = err_from_is_err_and c.from_residual-in_err-put_lines.result c.from_residual-in_err-put_lines.ensures.1 in
@@ -48,7 +66,7 @@ returns-in_err-put_lines g c =
 
 pub returns : goal.returns
 returns g c =
-    let e = take_rest c.deref.result.now c.in_ok-replies.replies.at ∙ answers_from (c.deref.ensures.value ∙ c.in_ok-replies.ensures.list) c.in_ok-replies.ensures.at in
+    let e = take_rest c.deref.result.now c.count.result ∙ answers_from (c.deref.ensures.value ∙ c.in_ok-replies.ensures) (c.count.ensures.items ∙ sym (length-map (kept_list c.args.plan.now.keeps) (λ (k : Keep). k.keep_out))) in
     let f = g.D.Domain.form c.args.domain in
     let l = lines_are g.met.D.Domain.lawful f (g.met.D.Domain.kept c.args.domain) c.args.plan.now in
     record {

@@ -9,4 +9,4 @@ returns c =
     let b : t.line < 2 ^ 64 = search rules in
     let d : t.field < 2 ^ 64 = search rules in
     let e : t.place < 2 ^ 64 = search rules in
-    record { lent = c.refused.ensures.lent; line = c.refused.ensures.line; short = refusal_short t a b d e }
+    record { put = c.refused.ensures; short = refusal_short t a b d e }

@@ -20,10 +20,10 @@ returns-in_err-put_refusal-in-Err c =
     let e = c.in-Err.refusal in
     let i = c.in-Err.ensures in
     let p = err_from_is_err_and c.from_residual.result c.from_residual.ensures.1 in
-    let line = subst (λ t. Puts (refused_line t) c.args.out.now c.put_refusal.new.out (Err c.in_err-put_refusal-in-Err.field-0.0)) c.told.ensures c.in_err-put_refusal-in-Err.ensures.line in
+    let line = subst (λ t. Puts (refused_line t) c.args.out.now c.put_refusal.new.out (Err c.in_err-put_refusal-in-Err.field-0.0)) c.told.ensures c.in_err-put_refusal-in-Err.ensures.put.line in
     rw (p.1, p.2)
     record {
-      lent = c.in_err-put_refusal-in-Err.ensures.lent;
+      lent = c.in_err-put_refusal-in-Err.ensures.put.lent;
       lines = of_refusal text (λ W lines. PutsTask W lines c.args.out.now c.put_refusal.new.out (Err (Line c.in_err-put_refusal-in-Err.field-0.0))) e i.law i.value (one_line ⊥ (refused_line (told e)) c.args.out.now c.put_refusal.new.out (Err c.in_err-put_refusal-in-Err.field-0.0) c.requires.room line);
       short = refusal_fits text e i.law i.value (subst (λ t. length (refused_line t) ≤ 92) c.told.ensures c.in_err-put_refusal-in-Err.ensures.short);
       law = subst (Answers text) i.value i.law;
@@ -35,9 +35,9 @@ returns-in_ok-put_refusal-in-Err c =
     let e = c.in-Err.refusal in
     let i = c.in-Err.ensures in
     let u = c.in_ok-put_refusal-in-Err.field-0 in
-    let line = subst (λ t. Puts (refused_line t) c.args.out.now c.put_refusal.new.out (Ok u)) c.told.ensures c.in_ok-put_refusal-in-Err.ensures.line in
+    let line = subst (λ t. Puts (refused_line t) c.args.out.now c.put_refusal.new.out (Ok u)) c.told.ensures c.in_ok-put_refusal-in-Err.ensures.put.line in
     record {
-      lent = c.in_ok-put_refusal-in-Err.ensures.lent;
+      lent = c.in_ok-put_refusal-in-Err.ensures.put.lent;
       lines = of_refusal text (λ W lines. PutsTask W lines c.args.out.now c.put_refusal.new.out (Ok u)) e i.law i.value (one_line ⊥ (refused_line (told e)) c.args.out.now c.put_refusal.new.out (Ok u) c.requires.room line);
       short = refusal_fits text e i.law i.value (subst (λ t. length (refused_line t) ≤ 92) c.told.ensures c.in_ok-put_refusal-in-Err.ensures.short);
       law = subst (Answers text) i.value i.law;

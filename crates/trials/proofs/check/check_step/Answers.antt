@@ -11,10 +11,10 @@ loop-direction-preserved g c =
     let i = c.loop-direction.direction-index in
     let t = c.loop-direction.tally in
     let m = c.check_bound.result in
-    let r = c.add-tally.result in
+    let r = c.add_assign.new.self in
     let l = c.direction-item.result in (
-      count_more l c.bound.result c.args.step ws i _ t m r c.add-tally.ensures.1 c.loop-direction.invariant.0 c.check_bound.ensures c.loop-direction-test.true c.requires,
-      seen_more b c.args.step ws ls i t m r l c.bound.result c.loop-direction-test.true c.direction-item.is c.bound.ensures c.check_bound.ensures c.add-tally.ensures.0
+      count_more l c.bound.result c.args.step ws i _ t m r c.add_assign.ensures.after.1 c.loop-direction.invariant.0 c.check_bound.ensures c.loop-direction-test.true c.requires,
+      seen_more b c.args.step ws ls i t m r l c.bound.result c.loop-direction-test.true c.direction-item.is c.bound.ensures c.check_bound.ensures c.add_assign.ensures.after.0
           c.loop-direction.invariant.1,
     )
 
