@@ -3,7 +3,7 @@
 
 use domains::domain::Domain;
 use dynamics::direction::Direction;
-use samples::values::{worked_model, worked_start};
+use samples::values::{plan_model, plan_start};
 use std::io;
 use zonotope::zonotope::Zonotope;
 
@@ -40,8 +40,8 @@ fn print_shape(rt: &impl Print, zonotope: &Zonotope) -> io::Result<()> {
 }
 
 fn main(rt: HostRuntime) -> anyhow::Result<()> {
-    let model = worked_model()?;
-    let start = worked_start()?;
+    let model = plan_model()?;
+    let start = plan_start()?;
     let ahead = Direction::new([1, 0, 0, 0])?;
     let zonotope = Zonotope::after(&model, &start, 1);
     print_shape(&rt, &zonotope)?;

@@ -8,7 +8,7 @@ use domains::domain::Domain;
 use domains::enclosure::enclosure;
 use domains::interval_box::IntervalBox;
 use samples::intervals::intervals;
-use samples::values::{IDENTITY, axis, channel, direction, model, start};
+use samples::values::{axis, channel, direction, identity, model, start};
 use std::test::Fail;
 use unbounded::Unbounded;
 
@@ -66,13 +66,13 @@ fn three_steps(rt: HostRuntime) -> Result<(), Fail> {
 fn a_limit_of_two_to_the_thirty_is_kept(rt: HostRuntime) -> Result<(), Fail> {
     let still = channel([0; 4], 0, 0);
     let mut set = filled([1073741824, 0, 0, 0], [0; 4])?;
-    set.advance(&model(IDENTITY, still, still)?);
+    set.advance(&model(identity(), still, still)?);
     assert_eq!(rt;
         enclosure(&set),
         intervals([1073741824, 1073741824, 0, 0, 0, 0, 0, 0])
     );
     let mut pushed = filled([1073741823, 0, 0, 0], [1, 0, 0, 0])?;
-    pushed.advance(&model(IDENTITY, channel([4096, 0, 0, 0], -1, 1), still)?);
+    pushed.advance(&model(identity(), channel([4096, 0, 0, 0], -1, 1), still)?);
     assert_eq!(rt;
         enclosure(&pushed),
         intervals([1073741820, 1073741824, 0, 0, 0, 0, 0, 0])
@@ -83,7 +83,7 @@ fn a_limit_of_two_to_the_thirty_is_kept(rt: HostRuntime) -> Result<(), Fail> {
 #[test]
 fn a_limit_beyond_makes_it_unbounded_until_fill(rt: HostRuntime) -> Result<(), Fail> {
     let still = channel([0; 4], 0, 0);
-    let loops = model(IDENTITY, channel([4096, 0, 0, 0], 1, 0), still)?;
+    let loops = model(identity(), channel([4096, 0, 0, 0], 1, 0), still)?;
     let mut set = filled([1073741824, 0, 0, 0], [0; 4])?;
     set.advance(&loops);
     assert_eq!(rt; enclosure(&set), None);

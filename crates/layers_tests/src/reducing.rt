@@ -10,7 +10,7 @@ use dynamics::model::Model;
 use dynamics::start::Start;
 use layers::product::ReducedProduct;
 use samples::intervals::intervals;
-use samples::values::{IDENTITY, calm, channel, model, start};
+use samples::values::{calm, channel, identity, model, start};
 use std::test::Fail;
 use zonotope::zonotope::Zonotope;
 
@@ -72,7 +72,11 @@ fn each_side_is_tighter_somewhere(rt: HostRuntime) -> Result<(), Fail> {
 
 #[test]
 fn an_unbounded_zonotope_leaves_the_box(rt: HostRuntime) -> Result<(), Fail> {
-    let model = model(IDENTITY, channel([1, 0, 0, 0], 0, 0), channel([0; 4], 0, 0))?;
+    let model = model(
+        identity(),
+        channel([1, 0, 0, 0], 0, 0),
+        channel([0; 4], 0, 0),
+    )?;
     let start = start([1073741824, 0, 0, 0], [0, 5, 0, 0])?;
     assert_eq!(rt; after(&mut Zonotope::new(), &model, &start, 1), None);
     assert_eq!(rt;

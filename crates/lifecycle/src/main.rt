@@ -8,7 +8,7 @@ use domains::interval_box::IntervalBox;
 use dynamics::keep_out::KeepOut;
 use dynamics::refusal::Refusal;
 use layers::product::ReducedProduct;
-use samples::values::{worked_model, worked_start};
+use samples::values::{plan_model, plan_start};
 use tube::fault::Fault;
 use tube::finding::Finding;
 use tube::opened::Opened;
@@ -22,8 +22,8 @@ fn opened() -> Result<Opened<Stack>, Refusal>
     ensures { IfOk result (λ t. (t.table.count ≡ 0) × (t.domain.left.stored ≡ None) × (t.domain.right.limits ≡ None)) }
 {
     Ok(Opened::open(
-        worked_model()?,
-        worked_start()?,
+        plan_model()?,
+        plan_start()?,
         ReducedProduct::new(Zonotope::new(), IntervalBox::new()),
     ))
 }

@@ -1,5 +1,6 @@
 -- What was cut is put together again.
-use Rattle.std.proofs.Common.{◌≡◌, ℕ, Bool, true, false, cond, eqb, List, [], ◌∷◌, ◌++◌, length, Some, None, Ok, Err, codes, Option, Result, sym, refl, ap, ◌∙◌, subst, arith}
+use Rattle.std.proofs.Common.{◌≡◌, ℕ, ◌+◌, Bool, true, false, cond, eqb, List, [], ◌∷◌, ◌++◌, length, take, drop, Some, None, Ok, Err, codes, Option, Result, sym, refl, ap, ◌∙◌, subst, arith}
+use Rattle.std.proofs.lemmas.List.{append_assoc, drop-drop, take_at}
 use Rattle.std.proofs.lemmas.Slice.Eq.{bytes_eq-Decides}
 use Rattle.std.proofs.lemmas.Bool.{eqb-true}
 use Rattle.std.specs.Str.{bytes_eq}
@@ -10,7 +11,7 @@ use Rattle.plan.specs.declared.record.Kind.TheVariants as kinds
 use Rattle.plan.specs.declared.record.Expected.{Expected}
 use Rattle.plan.specs.declared.record.Expected.TheVariants.{Row, Gust, Start, KeepOrSteps, OnlySteps}
 use Rattle.plan.specs.Cuts.{line_of, longer_line, fields_of, longer_field}
-use Rattle.plan.specs.Grammar.{tabbed, word}
+use Rattle.plan.specs.Grammar.{tabs, tabbed, word}
 use Rattle.plan.specs.Records.{Fielded, only, kind_of, width, counted, named, record_of}
 use Rattle.plan.proofs.Inside.{bind_ok}
 
@@ -98,3 +99,12 @@ record_joined x line r e =
     let P : Fielded → Type 0 = λ r. (line ≡ tabbed (word r.0 ∷ r.1)) × (length r.1 ≡ width r.0) × (kind_of x (word r.0) ≡ Ok r.0) in
     subst P c.0
     (sym (fields_joined line) ∙ ap tabbed s.2 ∙ ap (λ (n : List ℕ). tabbed (n ∷ s.1)) w, c.1, ap (kind_of x) (sym w) ∙ k.1)
+
+-- ---- the label of a keep-out
+-- it stands five bytes from where its line begins
+pub label_at : (text : List ℕ) (pos : ℕ) (line rest : List ℕ) (x : Expected) (label : List ℕ) (fs : List (List ℕ))
+    → line_of (drop pos text) ≡ Some (line, rest) → record_of x line ≡ Ok (kinds.Keep, label ∷ fs) → take (length label) (drop (pos + 5) text) ≡ label
+label_at text pos line rest x label fs h e =
+    let j = record_joined x line (kinds.Keep, label ∷ fs) e in
+    let t : drop pos text ≡ tabbed (codes "keep" ∷ label ∷ fs) ++ (10 ∷ rest) = line-joined (drop pos text) line rest h ∙ ap (λ (u : List ℕ). u ++ 10 ∷ rest) j.0 in
+    ap (take (length label)) (sym (drop-drop 5 pos text) ∙ ap (drop 5) t ∙ append_assoc label (tabs fs) (10 ∷ rest)) ∙ take_at label (tabs fs ++ (10 ∷ rest)) (length label) refl

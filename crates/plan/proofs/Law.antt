@@ -209,6 +209,6 @@ plan_sure t s e = go (ltb 8192 (length t)) refl e
     go false q e = ended_ok t (sheet_at 0 t) s (ltb-false 8192 (length t) q) refl e
 
 -- ---- the law
-pub answers : (t : List ℕ) (r : Result Plan Refusal) → shown sheet r ≡ plan_of t → Answers t (shown sheet r)
-answers t (Ok p) e = λ s. (λ h. let f = plan_full t s h in let same : sheet p ≡ s = cc in sym same, λ q. plan_sure t s (sym e ∙ ap Ok (sym q)))
+pub answers : (t : List ℕ) (r : Result Plan Refusal) → shown (sheet t) r ≡ plan_of t → Answers t (shown (sheet t) r)
+answers t (Ok p) e = λ s. (λ h. let f = plan_full t s h in let same : sheet t p ≡ s = cc in sym same, λ q. plan_sure t s (sym e ∙ ap Ok (sym q)))
 answers t (Err y) e = λ s h. let f = plan_full t s h in let z : ◌≡◌ {A = ℕ} 0 1 = cc in omega arith

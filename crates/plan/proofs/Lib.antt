@@ -2,6 +2,7 @@ pub mod Breaks
 pub mod Inside
 pub mod Joins
 pub mod Tails
+pub mod Lates
 pub mod Adds
 pub mod Numerals
 pub mod Seams

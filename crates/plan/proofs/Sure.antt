@@ -1,12 +1,10 @@
 -- Every text that is read as a plan spells that plan.
-use Rattle.std.proofs.Common.{◌≡◌, ℕ, zero, suc, ◌+◌, ◌^◌, ◌≤◌, Bool, true, false, cond, List, [], ◌∷◌, ◌++◌, length, get_or, ℤ, pos, neg_ℤ, nat_abs, ◌≤ℤ◌, Ok, Err, Result, sym, refl, ap, ◌∙◌, subst, arith}
+use Rattle.std.proofs.Common.{◌≡◌, ℕ, zero, suc, ◌+◌, ◌^◌, ◌≤◌, List, [], ◌∷◌, ◌++◌, length, get_or, ℤ, pos, neg_ℤ, nat_abs, ◌≤ℤ◌, Ok, Result, sym, refl, ap, ◌∙◌, subst, arith}
 use Rattle.std.proofs.lemmas.List.{append_assoc}
 use Rattle.std.proofs.lemmas.Int.{ints}
 use Rattle.arith.specs.Sums.{part}
 use Rattle.dynamics.specs.declared.channel.Channel.{Channel}
 use Rattle.dynamics.specs.Limits.{DirectionLimits}
-use Rattle.plan.specs.declared.faults.FieldFault.{FieldFault}
-use Rattle.plan.specs.declared.faults.FieldFault.TheVariants.{Label}
 use Rattle.plan.specs.declared.faults.LineFault.{LineFault}
 use Rattle.plan.specs.declared.record.Kind.{Kind}
 use Rattle.plan.specs.declared.record.Kind.TheVariants as kinds
@@ -21,6 +19,7 @@ use Rattle.plan.specs.Spelling.{Numeral, Item, number, Spelt, Fields, numbers4, 
 use Rattle.plan.specs.Values.{Late, keeping, stepping, in_line, pair_of, row_from, gust_from, start_from, keep_out_of, keep_from, steps_from, late_from, row_of, gust_of, start_of, late_of}
 use Rattle.plan.proofs.Inside.{bind_ok, in_line_ok, ranged-kept, within-kept, up_to_kept, entries-kept, together_ok, pair_kept, line_by_ok, ChannelKept}
 use Rattle.plan.proofs.Joins.{line-joined, record_joined}
+use Rattle.plan.proofs.Lates.{label_ok}
 use Rattle.plan.proofs.Numerals.{number_sound}
 
 -- ---- fields
@@ -47,13 +46,6 @@ index_sure : (i : ℕ) (text : List ℕ) (z : ℤ) → index_of i text ≡ Ok z 
 index_sure i text z e =
     let k = ranged-kept 2 (pos i) (pos i) text z e in
     subst (Numeral text) (between z i k.0 k.1) (number_sound 2 text z k.2)
-
-label_ok : (text label : List ℕ) → label_of text ≡ Ok label → (text ≡ label) × (is_label text ≡ true)
-label_ok text label e = go (is_label text) refl e
-  where
-    go : (t : Bool) → is_label text ≡ t → cond {A = Result (List ℕ) FieldFault} t (Ok text) (Err (Label 2)) ≡ Ok label → (text ≡ label) × (is_label text ≡ true)
-    go true t e = let q : text ≡ label = cc in (q, t)
-    go false t e = let z : ◌≡◌ {A = ℕ} 0 1 = cc in absurd (omega arith)
 
 abbrev Four : List ℕ → List ℕ → List ℕ → List ℕ → List ℤ → Type 0
 Four a b c d v = Numeral a (part v 0) × Numeral b (part v 1) × Numeral c (part v 2) × Numeral d (part v 3) × (length v ≡ 4)

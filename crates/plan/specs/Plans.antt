@@ -87,22 +87,22 @@ ended (Err e) = Err (Line e.0 e.1)
 abbrev pub plan_of : List ℕ → Result Sheet Refusal
 plan_of text = cond (nat_lt 8192 (length text)) (Err TooLong) (ended (sheet_at 0 text))
 
--- checked values as plain numbers
+-- checked values as plain numbers; labels are parts of the text
 abbrev pub plain_loop : Model → Loop
 plain_loop m = record { matrix = m.matrix; gains = m.gains; centres = m.centres; radii = m.radii }
 
 abbrev pub plain_begin : Start → Begin
 plain_begin s = record { centres = s.centres; radii = s.radii }
 
-abbrev pub plain_late : Later → Late
-plain_late (later.Keep k) = keeping (kept k)
-plain_late (later.Steps s) = stepping s.count
+abbrev pub plain_late : List ℕ → Later → Late
+plain_late text (later.Keep k) = keeping (kept text k)
+plain_late text (later.Steps s) = stepping s.count
 
-abbrev pub plain_tail : Tail → List Kept × ℕ
-plain_tail e = (map kept (kept_list e.keeps), e.steps.count)
+abbrev pub plain_tail : List ℕ → Tail → List Kept × ℕ
+plain_tail text e = (map (kept text) (kept_list e.keeps), e.steps.count)
 
-abbrev pub sheet : Plan → Sheet
-sheet p = record { loop = plain_loop p.model; begin = plain_begin p.start; keeps = map kept (kept_list p.keeps); steps = p.steps.count }
+abbrev pub sheet : List ℕ → Plan → Sheet
+sheet text p = record { loop = plain_loop p.model; begin = plain_begin p.start; keeps = map (kept text) (kept_list p.keeps); steps = p.steps.count }
 
 -- the lines after the starts
 abbrev pub is_late : Expected → Bool

@@ -4,7 +4,7 @@ use super::keep::Keep;
 use super::steps::Steps;
 
 #[derive(Clone, Copy)]
-pub(crate) enum Late<'a> {
-    Keep(Keep<'a>),
+pub(crate) enum Late {
+    Keep(Keep),
     Steps(Steps),
 }

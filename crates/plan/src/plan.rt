@@ -6,16 +6,16 @@ use dynamics::start::Start;
 
 /// A plan that was read. The labels of its keep-outs are parts of the text that it was read from.
 #[derive(Clone, Copy)]
-pub struct Plan<'a> {
+pub struct Plan {
     pub model: Model,
     pub start: Start,
-    pub keeps: Keeps<'a>,
+    pub keeps: Keeps,
     pub steps: Steps,
 }
 
 /// What follows the starts.
 #[derive(Clone, Copy)]
-pub(crate) struct Tail<'a> {
-    pub(crate) keeps: Keeps<'a>,
+pub(crate) struct Tail {
+    pub(crate) keeps: Keeps,
     pub(crate) steps: Steps,
 }

@@ -7,12 +7,14 @@ ghost use Rattle.plan.specs.Shown.{shown};
 ghost use Rattle.plan.specs.Spelling.{Answers, Sound, plan_text};
 
 use super::faults::{LineFault, Refusal};
+use super::fields::label;
+use super::keep::{Keep, Span};
 use super::keeps::Keeps;
 use super::late::Late;
 use super::lines::Lines;
 use super::plan::{Plan, Tail};
-use super::record::Expected;
-use super::values::{gust, late, row, start};
+use super::record::{Expected, Record, read_record};
+use super::values::{gust, keep_out, row, start, steps};
 use dynamics::channel::Channel;
 use dynamics::model::Model;
 use dynamics::start::Start;
@@ -25,7 +27,8 @@ impl<'a> Lines<'a> {
     /// The row of a number from 1.
     fn row(&mut self, i: usize) -> Result<[i64; 4], LineFault>
         requires { i ≤ 4 }
-        ensures { Reads (λ v. v) (line_by (row_of i)) self.old self.new result }
+        ensures text { self.new.text ≡ self.old.text }
+        ensures value { Reads (λ v. v) (line_by (row_of i)) self.old self.new result }
     {
         let (line, next) = self.split()?;
         let row = row(line, i)?;
@@ -36,7 +39,8 @@ impl<'a> Lines<'a> {
     /// The channel of a number from 1.
     fn channel(&mut self, j: usize) -> Result<Channel, LineFault>
         requires { j ≤ 2 }
-        ensures { Reads (λ v. v) (line_by (gust_of j)) self.old self.new result }
+        ensures text { self.new.text ≡ self.old.text }
+        ensures value { Reads (λ v. v) (line_by (gust_of j)) self.old self.new result }
     {
         let (line, next) = self.split()?;
         let channel = gust(line, j)?;
@@ -47,7 +51,8 @@ impl<'a> Lines<'a> {
     /// The part of the start of a number from 1.
     fn part(&mut self, i: usize) -> Result<(i64, i64), LineFault>
         requires { i ≤ 4 }
-        ensures { Reads (λ v. v) (line_by (start_of i)) self.old self.new result }
+        ensures text { self.new.text ≡ self.old.text }
+        ensures value { Reads (λ v. v) (line_by (start_of i)) self.old self.new result }
     {
         let (line, next) = self.split()?;
         let part = start(line, i)?;
@@ -58,14 +63,16 @@ impl<'a> Lines<'a> {
     /// The four rows.
     // Written out: of an error `try_from_fn` does not say that it is the first.
     fn rows(&mut self) -> Result<[[i64; 4]; 4], LineFault>
-        ensures { Reads (λ v. v) rows_at self.old self.new result }
+        ensures text { self.new.text ≡ self.old.text }
+        ensures value { Reads (λ v. v) rows_at self.old self.new result }
     {
         Ok([self.row(1)?, self.row(2)?, self.row(3)?, self.row(4)?])
     }
 
     /// The model: four rows and two channels.
     fn model(&mut self) -> Result<Model, LineFault>
-        ensures { Reads plain_loop loop_at self.old self.new result }
+        ensures text { self.new.text ≡ self.old.text }
+        ensures value { Reads plain_loop loop_at self.old self.new result }
     {
         let matrix = self.rows()?;
         let first = self.channel(1)?;
@@ -79,7 +86,8 @@ impl<'a> Lines<'a> {
     /// The start: four parts.
     // Written out for the same reason as the rows.
     fn start(&mut self) -> Result<Start, LineFault>
-        ensures { Reads plain_begin begin_at self.old self.new result }
+        ensures text { self.new.text ≡ self.old.text }
+        ensures value { Reads plain_begin begin_at self.old self.new result }
     {
         let (p1, w1) = self.part(1)?;
         let (p2, w2) = self.part(2)?;
@@ -92,19 +100,41 @@ impl<'a> Lines<'a> {
     }
 
     /// A keep-out or the steps.
-    fn late(&mut self, expected: Expected) -> Result<Late<'a>, LineFault>
+    fn late(&mut self, expected: Expected) -> Result<Late, LineFault>
         requires { is_late expected ≡ true }
-        ensures { Reads plain_late (line_by (late_of expected)) self.old self.new result }
+        ensures text { self.new.text ≡ self.old.text }
+        ensures value { Reads (plain_late self.old.text.now) (line_by (late_of expected)) self.old self.new result }
     {
+        let from = self.text.len() - self.rest.len();
         let (line, next) = self.split()?;
-        let late = late(line, expected)?;
-        *self = next;
-        Ok(late)
+        match read_record(line, expected)? {
+            Record::Keep {
+                label: name,
+                entries,
+                threshold,
+            } => {
+                let length = label(name)?.len();
+                let keep_out = keep_out(entries, threshold)?;
+                let start = from + 5;
+                *self = next;
+                Ok(Late::Keep(Keep {
+                    label: Span { start, length },
+                    keep_out,
+                }))
+            }
+            Record::Steps { count } => {
+                let steps = steps(count)?;
+                *self = next;
+                Ok(Late::Steps(steps))
+            }
+            _ => unreachable(),
+        }
     }
 
     /// The keep-outs, up to sixteen, and the steps.
-    fn tail(&mut self) -> Result<Tail<'a>, LineFault>
-        ensures { Reads plain_tail (tail_at 16 []) self.old self.new result }
+    fn tail(&mut self) -> Result<Tail, LineFault>
+        ensures text { self.new.text ≡ self.old.text }
+        ensures value { Reads (plain_tail self.old.text.now) (tail_at 16 []) self.old self.new result }
     {
         let mut keeps = Keeps::new();
         while keeps.count() < 16 {
@@ -120,8 +150,9 @@ impl<'a> Lines<'a> {
     }
 
     /// All records of a plan.
-    fn plan(&mut self) -> Result<Plan<'a>, LineFault>
-        ensures { Reads sheet sheet_at self.old self.new result }
+    fn plan(&mut self) -> Result<Plan, LineFault>
+        ensures text { self.new.text ≡ self.old.text }
+        ensures value { Reads (sheet self.old.text.now) sheet_at self.old self.new result }
     {
         let model = self.model()?;
         let start = self.start()?;
@@ -137,15 +168,16 @@ impl<'a> Lines<'a> {
 
 /// The plan that a text says, or why it says none.
 #[tactic(auto, using(crate::proofs::Texts::text_read))]
-pub fn read_plan<'a>(text: &'a [u8]) -> Result<Plan<'a>, Refusal>
-    ensures value { shown sheet result ≡ plan_of text.now }
+pub fn read_plan(text: &[u8]) -> Result<Plan, Refusal>
+    ensures value { shown (sheet text.now) result ≡ plan_of text.now }
     ensures written { (s : Sheet) → Sound s → plan_of (plan_text s) ≡ Ok s }
-    ensures law { Answers text.now (shown sheet result) }
+    ensures law { Answers text.now (shown (sheet text.now) result) }
 {
     if text.len() > LONGEST {
         return Err(Refusal::TooLong);
     }
     let mut lines = Lines {
+        text,
         rest: text,
         number: 0,
     };

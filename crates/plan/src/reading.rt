@@ -10,14 +10,15 @@ impl<'a> Lines<'a> {
     /// The next line, without its end, and what follows it.
     pub(crate) fn split(self) -> Result<(&'a [u8], Lines<'a>), LineFault>
         ensures { MatchResult result
-            (λ p. (p.1.number ≡ self.entry.number + 1) × (cut_line self.entry.number self.entry.rest.now ≡ Ok (p.0.now, self.entry.number + 1, p.1.rest.now)))
+            (λ p. (p.1.text ≡ self.entry.text) × (p.1.number ≡ self.entry.number + 1) × (cut_line self.entry.number self.entry.rest.now ≡ Ok (p.0.now, self.entry.number + 1, p.1.rest.now)))
             (λ e. cut_line self.entry.number self.entry.rest.now ≡ Err (self.entry.number + 1, e)) }
     {
         let line = part(self.rest, b'\n');
         let Some(rest) = self.rest.get(line.len() + 1..) else {
             return Err(LineFault::NoEnd);
         };
+        let text = self.text;
         let number = self.number + 1;
-        Ok((line, Lines { rest, number }))
+        Ok((line, Lines { text, rest, number }))
     }
 }

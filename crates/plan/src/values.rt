@@ -1,14 +1,11 @@
 //! What the lines of a plan say.
-ghost use Rattle.std.specs.Prelude.{◌≡◌, ◌^◌, ◌≤◌, true};
-ghost use Rattle.plan.specs.Values.{pair_of, row_of, gust_of, start_of, keep_out_of, plain_keep, steps_of, plain_steps, late_of};
-ghost use Rattle.plan.specs.Plans.{plain_late, is_late};
+ghost use Rattle.std.specs.Prelude.{◌≡◌, ◌^◌, ◌≤◌};
+ghost use Rattle.plan.specs.Values.{pair_of, row_of, gust_of, start_of, keep_out_of, plain_keep, steps_of, plain_steps};
 ghost use Rattle.plan.specs.Shown.{shown};
 
 use super::entries::Entries;
 use super::faults::{FieldFault, LineFault};
-use super::fields::{index, label, ranged};
-use super::keep::Keep;
-use super::late::Late;
+use super::fields::{index, ranged};
 use super::record::{Expected, Record, read_record};
 use super::steps::Steps;
 use dynamics::channel::Channel;
@@ -87,7 +84,7 @@ pub(crate) fn start(line: &[u8], i: usize) -> Result<(i64, i64), LineFault>
 }
 
 /// The keep-out of four entries and a threshold in field 7.
-fn keep_out(entries: Entries, threshold: &[u8]) -> Result<KeepOut, LineFault>
+pub(crate) fn keep_out(entries: Entries, threshold: &[u8]) -> Result<KeepOut, LineFault>
     ensures { shown plain_keep result ≡ keep_out_of entries.entry.a.now entries.entry.b.now entries.entry.c.now entries.entry.d.now threshold.now }
 {
     let entries = entries.numbers()?;
@@ -98,28 +95,8 @@ fn keep_out(entries: Entries, threshold: &[u8]) -> Result<KeepOut, LineFault>
     Ok(keep_out)
 }
 
-/// A keep-out or the steps.
-pub(crate) fn late<'a>(line: &'a [u8], expected: Expected) -> Result<Late<'a>, LineFault>
-    requires { is_late expected ≡ true }
-    ensures { shown plain_late result ≡ late_of expected line.now }
-{
-    match read_record(line, expected)? {
-        Record::Keep {
-            label: name,
-            entries,
-            threshold,
-        } => {
-            let label = label(name)?;
-            let keep_out = keep_out(entries, threshold)?;
-            Ok(Late::Keep(Keep { label, keep_out }))
-        }
-        Record::Steps { count } => Ok(Late::Steps(steps(count)?)),
-        _ => unreachable(),
-    }
-}
-
 /// The steps in field 2.
-fn steps(count: &[u8]) -> Result<Steps, FieldFault>
+pub(crate) fn steps(count: &[u8]) -> Result<Steps, FieldFault>
     ensures { shown plain_steps result ≡ steps_of count.now }
 {
     let count = ranged(count, 2, 0, 256)?;

@@ -3,16 +3,27 @@
 //! line of its steps and some of its numbers, and a line for each of its labels.
 #![tactic(auto)]
 
+ghost use Rattle.std.specs.Prelude.{◌≡◌, ◌≤◌, ◌∷◌, ◌++◌, length, IfOk, IfSome};
+
 use plan::keeps::Keeps;
 use plan::plan::Plan;
 use plan::reader::read_plan;
 use plan::writer::{Full, Writer};
-use std::alloc::Global;
 use std::io;
 use std::io::Read;
 
 /// More bytes than the table has.
-const TABLE: u64 = 65536;
+const TABLE: usize = 65536;
+
+/// All of the input, as far as it fits: how many bytes of `buf` it fills.
+fn read_input(input: &mut impl Read, buf: &mut [u8]) -> io::Result<usize>
+    ensures { IfOk result (λ n. n ≤ length buf.old) }
+{
+    let room = buf.len();
+    let mut rest = buf;
+    io::copy(&mut input.take(room as u64), &mut rest)?;
+    Ok(room.saturating_sub(rest.len()))
+}
 
 /// The threshold of the last keep-out, or 0.
 fn last_threshold(keeps: &Keeps) -> i64 {
@@ -23,7 +34,7 @@ fn last_threshold(keeps: &Keeps) -> i64 {
 }
 
 /// Puts what a plan holds.
-fn put_plan(out: &mut Writer, plan: &Plan) -> Result<(), Full> {
+fn put_plan(out: &mut Writer, text: &[u8], plan: &Plan) -> Result<(), Full> {
     let matrix = plan.model.matrix();
     let gains = plan.model.gains();
     let centres = plan.model.centres();
@@ -41,13 +52,13 @@ fn put_plan(out: &mut Writer, plan: &Plan) -> Result<(), Full> {
         last_threshold(&plan.keeps),
     ];
     out.step(plan.steps.count(), numbers)?;
-    put_labels(out, &plan.keeps)
+    put_labels(out, text, &plan.keeps)
 }
 
 /// Puts a line for each label.
-fn put_labels(out: &mut Writer, keeps: &Keeps) -> Result<(), Full> {
+fn put_labels(out: &mut Writer, text: &[u8], keeps: &Keeps) -> Result<(), Full> {
     for keep in keeps.as_slice() {
-        out.clear(keep.label)?;
+        out.clear(keep.label.part(text))?;
     }
     Ok(())
 }
@@ -55,7 +66,7 @@ fn put_labels(out: &mut Writer, keeps: &Keeps) -> Result<(), Full> {
 /// Puts what the reader says of a text.
 fn put_answer(out: &mut Writer, text: &[u8]) -> Result<(), Full> {
     match read_plan(text) {
-        Ok(plan) => put_plan(out, &plan),
+        Ok(plan) => put_plan(out, text, &plan),
         Err(refusal) => out.refused(refusal.told()),
     }
 }
@@ -67,24 +78,38 @@ fn agrees(text: &[u8], answer: &[u8]) -> bool {
     put_answer(&mut out, text).is_ok() && out.text() == answer
 }
 
+/// The part of a table before the first byte 255, and what follows that byte.
+fn cut(table: &[u8]) -> Option<(&[u8], &[u8])>
+    ensures { IfSome result (λ p. table.now ≡ p.0.now ++ 255 ∷ p.1.now) }
+{
+    let at = table.iter().position(|byte| *byte == 255)?;
+    Some((&table[..at], &table[at + 1..]))
+}
+
 /// Counts the texts that agree and prints the number, from 0, of each that does not.
-fn count_agreeing(rt: &impl Print, heap: Global, table: &[u8]) -> io::Result<usize> {
-    let parts: Vec<&[u8]> = table.split(|byte| *byte == 255).collect(heap)?;
+fn count_agreeing(rt: &impl Print, table: &[u8]) -> io::Result<usize> {
+    let mut rest = table;
     let mut agreeing = 0usize;
-    for (n, pair) in parts.chunks_exact(2).enumerate() {
-        if agrees(pair[0], pair[1]) {
+    for n in 0..4096usize {
+        let Some((text, more)) = cut(rest) else {
+            break;
+        };
+        // The last answer may lack its byte 255.
+        let (answer, more) = cut(more).unwrap_or((more, &[]));
+        if agrees(text, answer) {
             agreeing = agreeing.saturating_add(1);
         } else {
             println!(rt; "differs\t{n}")?;
         }
+        rest = more;
     }
     Ok(agreeing)
 }
 
 fn main(rt: HostRuntime) -> anyhow::Result<()> {
-    let mut table = Vec::new(rt.alloc());
-    rt.stdin().take(TABLE).read_to_end(&mut table)?;
-    let agreeing = count_agreeing(&rt, rt.alloc(), &table)?;
+    let mut table = [0u8; TABLE];
+    let len = read_input(&mut rt.stdin(), &mut table)?;
+    let agreeing = count_agreeing(&rt, &table[..len])?;
     println!(&rt; "texts\t{agreeing}")?;
     Ok(())
 }

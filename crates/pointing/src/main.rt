@@ -2,7 +2,7 @@
 //! box, a line for each step.
 #![tactic(auto)]
 
-ghost use Rattle.std.specs.Prelude.{◌≡◌, ◌++◌, OnOk};
+ghost use Rattle.std.specs.Prelude.{◌≡◌, ◌≤◌, ◌++◌, length, IfOk, OnOk};
 ghost use Rattle.domains.specs.Axes as axes;
 ghost use Rattle.domains.specs.Enclosure as spec;
 ghost use Rattle.plan.specs.Report.{Puts};
@@ -17,14 +17,25 @@ use dynamics::model::Model;
 use layers::product::ReducedProduct;
 use plan::reader::read_plan;
 use plan::writer::{Full, Writer};
+use std::io;
 use std::io::{Read, Write};
 use zonotope::zonotope::Zonotope;
 
 /// One byte more than the longest text of a plan: enough to see that a text is too long.
-const TEXT: u64 = 8193;
+const TEXT: usize = 8193;
 
 /// Room for the longest report: 257 lines of less than 200 bytes.
 const PAGE: usize = 65536;
+
+/// All of the input, as far as it fits: how many bytes of `buf` it fills.
+fn read_input(input: &mut impl Read, buf: &mut [u8]) -> io::Result<usize>
+    ensures { IfOk result (λ n. n ≤ length buf.old) }
+{
+    let room = buf.len();
+    let mut rest = buf;
+    io::copy(&mut input.take(room as u64), &mut rest)?;
+    Ok(room.saturating_sub(rest.len()))
+}
 
 /// The ends of four intervals, one after the other.
 fn interval_ends(intervals: [Interval; 4]) -> [i64; 8]
@@ -85,11 +96,11 @@ fn put_report(out: &mut Writer, text: &[u8]) -> Result<(), Full>
 }
 
 fn main(rt: HostRuntime) -> anyhow::Result<()> {
-    let mut text = Vec::new(rt.alloc());
-    rt.stdin().take(TEXT).read_to_end(&mut text)?;
+    let mut text = [0u8; TEXT];
+    let len = read_input(&mut rt.stdin(), &mut text)?;
     let mut page = [0u8; PAGE];
     let mut out = Writer::over(&mut page);
-    put_report(&mut out, &text)?;
+    put_report(&mut out, &text[..len])?;
     rt.stdout().write_all(out.text())?;
     Ok(())
 }

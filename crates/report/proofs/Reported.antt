@@ -19,7 +19,7 @@ use Rattle.report.specs.Lines.{in_front, ends, step_text, keep_text}
 use Rattle.report.specs.Questions.{questions}
 use Rattle.report.specs.Replies.{bound_in, finding_in, reply_at, bounds_at, Limited, told_step, told_keeps, told_lines, keep_outs, plan_replies}
 use Rattle.report.specs.Report.{bound_at, numbers_at, finding_of, lines_over}
-use Rattle.report.specs.Tasks.{Labelled, Task, labelled_keep, plan_task}
+use Rattle.report.specs.Tasks.{Labelled, Task, labelled_in, plan_task}
 use Rattle.report.proofs.Answered as told
 
 -- ---- lists by their elements
@@ -33,17 +33,17 @@ ends_same b c h =
     λ i. in_front (h 1 (omega arith) i) (h 0 (omega arith) i) (in_front (h 3 (omega arith) i) (h 2 (omega arith) i) (in_front (h 5 (omega arith) i) (h 4 (omega arith) i) (in_front (h 7 (omega arith) i) (h 6 (omega arith) i) (Some []))))
 
 -- lines of keep-outs, by replies of which the finding is known
-keeps_same : (v : Labelled → Finding) (φ : ℕ → Reply) (ks : List Keep) (i : ℕ)
-    → ((j : ℕ) (k : Keep) → j < length ks → k ≡ get_or ks j k → finding_in (φ (i + j)) ≡ v (labelled_keep k))
-    → told_keeps ks (map φ (range_with_len i (length ks))) ≡ map (λ k. keep_text k.label (v k)) (map labelled_keep ks)
-keeps_same v φ [] i h = refl
-keeps_same v φ (k ∷ ks) i h =
+keeps_same : (text : List ℕ) (v : Labelled → Finding) (φ : ℕ → Reply) (ks : List Keep) (i : ℕ)
+    → ((j : ℕ) (k : Keep) → j < length ks → k ≡ get_or ks j k → finding_in (φ (i + j)) ≡ v (labelled_in text k))
+    → told_keeps text ks (map φ (range_with_len i (length ks))) ≡ map (λ k. keep_text k.label (v k)) (map (labelled_in text) ks)
+keeps_same text v φ [] i h = refl
+keeps_same text v φ (k ∷ ks) i h =
     let z : i + 0 ≡ i = omega arith in
     ap₂ (λ (x : List ℕ) (xs : List (List ℕ)). x ∷ xs)
-    (ap (keep_text (labelled_keep k).label) (ap (λ (n : ℕ). finding_in (φ n)) (sym z) ∙ h 0 k (omega arith) refl))
-    (keeps_same v φ ks (i + 1) (λ j o l e. let s : (i + 1) + j ≡ i + suc j = omega arith in ap (λ (n : ℕ). finding_in (φ n)) s ∙ h (suc j) o (omega arith) e))
+    (ap (keep_text (labelled_in text k).label) (ap (λ (n : ℕ). finding_in (φ n)) (sym z) ∙ h 0 k (omega arith) refl))
+    (keeps_same text v φ ks (i + 1) (λ j o l e. let s : (i + 1) + j ≡ i + suc j = omega arith in ap (λ (n : ℕ). finding_in (φ n)) s ∙ h (suc j) o (omega arith) e))
 
-module _ {F : Type 0} {d : Meaning F} (laws : Lawful d) (f : F) (fits : d.fits f) (p : Plan) where
+module _ {F : Type 0} {d : Meaning F} (laws : Lawful d) (f : F) (fits : d.fits f) (text : List ℕ) (p : Plan) where
   abbrev ks : List Keep
   ks = kept_list p.keeps
 
@@ -51,7 +51,7 @@ module _ {F : Type 0} {d : Meaning F} (laws : Lawful d) (f : F) (fits : d.fits f
   n = p.steps.count
 
   abbrev t : Task
-  t = plan_task p
+  t = plan_task text p
 
   few : length (keep_outs p) ≤ 16
   few = omega (arith, length-map ks (λ (k : Keep). k.keep_out), length-take p.keeps.list.len p.keeps.list.storage, p.keeps.list.room)
@@ -111,7 +111,7 @@ module _ {F : Type 0} {d : Meaning F} (laws : Lawful d) (f : F) (fits : d.fits f
       let q : length (first ++ later) ≡ 9 * n + 8 = omega (arith, length-append first later, told.later_length d p.model p.start f 0 n) in
       ap (drop (9 * n + 8)) (answers_are ∙ sym (append_assoc first later found)) ∙ drop_at (first ++ later) found (9 * n + 8) q
 
-  finding_same : (j : ℕ) (k : Keep) → j < length ks → k ≡ get_or ks j k → finding_in (reply d (told.last d p.model p.start f (keep_outs p) n p.steps.limited) (Ask (0 + j))) ≡ finding_of d f t (labelled_keep k)
+  finding_same : (j : ℕ) (k : Keep) → j < length ks → k ≡ get_or ks j k → finding_in (reply d (told.last d p.model p.start f (keep_outs p) n p.steps.limited) (Ask (0 + j))) ≡ finding_of d f t (labelled_in text k)
   finding_same j k h e =
       let z : 0 + j ≡ j = omega arith in
       ap (λ (i : ℕ). finding_in (reply d (told.last d p.model p.start f (keep_outs p) n p.steps.limited) (Ask i))) z
@@ -119,10 +119,10 @@ module _ {F : Type 0} {d : Meaning F} (laws : Lawful d) (f : F) (fits : d.fits f
       (omega (arith, length-map ks (λ (k : Keep). k.keep_out)))
       (ap (λ (o : Keep). o.keep_out) e ∙ sym (get_or-map (λ (o : Keep). o.keep_out) ks j k k.keep_out h)))
 
-  pub lines_are : told_lines ks answers n ≡ lines_over d f t
+  pub lines_are : told_lines text ks answers n ≡ lines_over d f t
   lines_are =
       ap₂ (λ (xs ys : List (List ℕ)). xs ++ ys)
       (map_counting_same (told_step answers) (λ k. step_text k (numbers_at d f t k)) 0 (n + 1)
       (λ k h l. ap (step_text k) (ends_same (bounds_at answers (9 * k)) (λ a. bound_at d f t k (axis a)) (bounds_are k (omega arith)))))
-      (ap (told_keeps ks) (found_are ∙ ap (λ (c : ℕ). map (λ k. reply d (told.last d p.model p.start f (keep_outs p) n p.steps.limited) (Ask k)) (range_with_len 0 c)) (length-map ks (λ (k : Keep). k.keep_out)))
-      ∙ keeps_same (finding_of d f t) (λ k. reply d (told.last d p.model p.start f (keep_outs p) n p.steps.limited) (Ask k)) ks 0 finding_same)
+      (ap (told_keeps text ks) (found_are ∙ ap (λ (c : ℕ). map (λ k. reply d (told.last d p.model p.start f (keep_outs p) n p.steps.limited) (Ask k)) (range_with_len 0 c)) (length-map ks (λ (k : Keep). k.keep_out)))
+      ∙ keeps_same text (finding_of d f t) (λ k. reply d (told.last d p.model p.start f (keep_outs p) n p.steps.limited) (Ask k)) ks 0 finding_same)

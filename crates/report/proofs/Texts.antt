@@ -15,10 +15,10 @@ use Rattle.report.proofs.Sizes.{report_short}
 use Rattle.report.proofs.Spelt.{task_is}
 
 module _ (text : List ℕ) (P : Type 0 → List (List ℕ) → Type 0) where
-  pub of_plan : (p : Plan) → Answers text (Ok (sheet p)) → Ok (sheet p) ≡ plan_of text → P (Unit {0}) (report_lines (plan_task p)) → Reports text P
+  pub of_plan : (p : Plan) → Answers text (Ok (sheet text p)) → Ok (sheet text p) ≡ plan_of text → P (Unit {0}) (report_lines (plan_task text p)) → Reports text P
   of_plan p law value k = record {
-    accepted = λ s h. subst (λ (t : Task). P (Unit {0}) (report_lines t)) (sym (task_is p s h.sound ((law s).0 h))) k;
-    refused = λ e q. let both : ◌≡◌ {A = Result Sheet Refusal} (Ok (sheet p)) (Err e) = value ∙ q in let z : ◌≡◌ {A = ℕ} 0 1 = cc in absurd (omega arith);
+    accepted = λ s h. subst (λ (t : Task). P (Unit {0}) (report_lines t)) (sym (task_is text p s h.sound ((law s).0 h))) k;
+    refused = λ e q. let both : ◌≡◌ {A = Result Sheet Refusal} (Ok (sheet text p)) (Err e) = value ∙ q in let z : ◌≡◌ {A = ℕ} 0 1 = cc in absurd (omega arith);
   }
 
   pub of_refusal : (e : Refusal) → Answers text (Err e) → Err e ≡ plan_of text → P ⊥ (refused_line (told e) ∷ []) → Reports text P
@@ -31,10 +31,10 @@ module _ (text : List ℕ) (P : Type 0 → List (List ℕ) → Type 0) where
 abbrev Fits : Type 0 → List (List ℕ) → Type 0
 Fits W lines = length (bytes lines) ≤ page_size
 
-pub plan_fits : (text : List ℕ) (p : Plan) → Answers text (Ok (sheet p)) → Ok (sheet p) ≡ plan_of text → Reports text Fits
+pub plan_fits : (text : List ℕ) (p : Plan) → Answers text (Ok (sheet text p)) → Ok (sheet text p) ≡ plan_of text → Reports text Fits
 plan_fits text p law value = record {
   accepted = λ s h. report_short stack_lawful new_stack new_fits s h.sound;
-  refused = λ e q. let both : ◌≡◌ {A = Result Sheet Refusal} (Ok (sheet p)) (Err e) = value ∙ q in let z : ◌≡◌ {A = ℕ} 0 1 = cc in absurd (omega arith);
+  refused = λ e q. let both : ◌≡◌ {A = Result Sheet Refusal} (Ok (sheet text p)) (Err e) = value ∙ q in let z : ◌≡◌ {A = ℕ} 0 1 = cc in absurd (omega arith);
 }
 
 pub refusal_fits : (text : List ℕ) (e : Refusal) → Answers text (Err e) → Err e ≡ plan_of text → length (refused_line (told e)) ≤ 92 → Reports text Fits

@@ -6,6 +6,7 @@ use Rattle.std.proofs.lemmas.Bool.{cases_lt}
 use Rattle.std.specs.List.{range_with_len}
 use Rattle.domains.specs.Meaning.{Answer}
 use Rattle.plan.specs.declared.keep.Keep.{Keep}
+use Rattle.plan.specs.Keeps.{spanned}
 use Rattle.tube.specs.declared.call.Reply.{Reply}
 use Rattle.tube.specs.declared.call.Reply.TheVariants.{Watched}
 use Rattle.tube.specs.declared.finding.Finding.{Finding}
@@ -34,16 +35,16 @@ step_told answers n k h bounds e =
     ap (λ (bs : List (Option ℤ)). step_text k (ends (λ a. get_or bs a None))) e ∙ sym (get_or-map-range_with_len (told_step answers) 0 (n + 1) k k [] h (omega arith))
 
 -- ---- keep-outs
-pub keeps_length : (ks : List Keep) (found : List Reply) → length (told_keeps ks found) ≡ length ks
-keeps_length [] found = refl
-keeps_length (k ∷ ks) found = ap suc (keeps_length ks (drop 1 found))
+pub keeps_length : (text : List ℕ) (ks : List Keep) (found : List Reply) → length (told_keeps text ks found) ≡ length ks
+keeps_length text [] found = refl
+keeps_length text (k ∷ ks) found = ap suc (keeps_length text ks (drop 1 found))
 
-pub keep_told : (ks : List Keep) (found : List Reply) (n : ℕ) (k : Keep) (f : Finding)
-    → n < length ks → k ≡ get_or ks n k → f ≡ finding_in (reply_at found n) → keep_text k.label.now f ≡ get_or (told_keeps ks found) n []
-keep_told [] found n k f h e q = absurd (omega (arith, h))
-keep_told (j ∷ ks) found zero k f h e q = ap₂ keep_text (ap (λ (i : Keep). i.label.now) e) q
-keep_told (j ∷ ks) found (suc n) k f h e q =
-    keep_told ks (drop 1 found) n k f (omega (arith, h)) e (q ∙ ap finding_in (sym (get_or-drop 1 found n Watched ∙ ap (λ (i : ℕ). get_or found i Watched) one)))
+pub keep_told : (text : List ℕ) (ks : List Keep) (found : List Reply) (n : ℕ) (k : Keep) (label : List ℕ) (f : Finding)
+    → n < length ks → k ≡ get_or ks n k → label ≡ spanned text k.label → f ≡ finding_in (reply_at found n) → keep_text label f ≡ get_or (told_keeps text ks found) n []
+keep_told text [] found n k label f h e p q = absurd (omega (arith, h))
+keep_told text (j ∷ ks) found zero k label f h e p q = ap₂ keep_text (p ∙ ap (λ (i : Keep). spanned text i.label) e) q
+keep_told text (j ∷ ks) found (suc n) k label f h e p q =
+    keep_told text ks (drop 1 found) n k label f (omega (arith, h)) e p (q ∙ ap finding_in (sym (get_or-drop 1 found n Watched ∙ ap (λ (i : ℕ). get_or found i Watched) one)))
   where
     one : 1 + n ≡ suc n
     one = omega arith

@@ -11,7 +11,7 @@ use Rattle.tube.specs.Calls.{watch_replies, begun, replies}
 use Rattle.tube.specs.Tables.{empty_table}
 use Rattle.plan.specs.declared.keep.Keep.{Keep}
 use Rattle.plan.specs.declared.plan.Plan.{Plan}
-use Rattle.plan.specs.Keeps.{kept_list}
+use Rattle.plan.specs.Keeps.{spanned, kept_list}
 use Rattle.report.specs.Lines.{ends, step_text, keep_text}
 use Rattle.report.specs.Questions.{questions}
 
@@ -51,13 +51,13 @@ abbrev pub told_steps : List Reply → ℕ → List (List ℕ)
 told_steps answers n = map (told_step answers) (range_with_len 0 (n + 1))
 
 -- the lines of keep-outs, by the replies to what is found of each
-abbrev pub told_keeps : List Keep → List Reply → List (List ℕ)
-told_keeps [] found = []
-told_keeps (k ∷ ks) found = keep_text k.label.now (finding_in (reply_at found 0)) ∷ told_keeps ks (drop 1 found)
+abbrev pub told_keeps : List ℕ → List Keep → List Reply → List (List ℕ)
+told_keeps text [] found = []
+told_keeps text (k ∷ ks) found = keep_text (spanned text k.label) (finding_in (reply_at found 0)) ∷ told_keeps text ks (drop 1 found)
 
 -- all lines of a report, where the findings follow the bounds of the last step
-abbrev pub told_lines : List Keep → List Reply → ℕ → List (List ℕ)
-told_lines keeps answers n = told_steps answers n ++ told_keeps keeps (drop (9 * n + 8) answers)
+abbrev pub told_lines : List ℕ → List Keep → List Reply → ℕ → List (List ℕ)
+told_lines text keeps answers n = told_steps answers n ++ told_keeps text keeps (drop (9 * n + 8) answers)
 
 -- ---- the replies of a tube over a domain, of form f before its fill, to the watches and questions of a plan
 abbrev pub keep_outs : Plan → List KeepOut

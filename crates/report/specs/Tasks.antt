@@ -5,7 +5,7 @@ use Rattle.dynamics.specs.declared.model.Model.{Model}
 use Rattle.dynamics.specs.declared.start.Start.{Start}
 use Rattle.plan.specs.declared.keep.Keep.{Keep}
 use Rattle.plan.specs.declared.plan.Plan.{Plan}
-use Rattle.plan.specs.Keeps.{Kept, kept_list}
+use Rattle.plan.specs.Keeps.{Kept, spanned, kept_list}
 use Rattle.plan.specs.Plans.{Sheet}
 use Rattle.plan.specs.Spelling.{KeptSound, AllSound, Sound}
 
@@ -37,8 +37,8 @@ task s h = record {
 }
 
 -- ---- the same of a plan that was read from a text
-abbrev pub labelled_keep : Keep → Labelled
-labelled_keep k = record { label = k.label.now; keep_out = k.keep_out }
+abbrev pub labelled_in : List ℕ → Keep → Labelled
+labelled_in text k = record { label = spanned text k.label; keep_out = k.keep_out }
 
-abbrev pub plan_task : Plan → Task
-plan_task p = record { model = p.model; start = p.start; keeps = map labelled_keep (kept_list p.keeps); steps = p.steps.count }
+abbrev pub plan_task : List ℕ → Plan → Task
+plan_task text p = record { model = p.model; start = p.start; keeps = map (labelled_in text) (kept_list p.keeps); steps = p.steps.count }

@@ -78,13 +78,18 @@ pub(crate) fn put_steps(out: &mut Writer, answers: &[Reply], steps: usize) -> Re
 }
 
 /// Puts the line of each keep-out, by the replies to what is found of each.
-pub(crate) fn put_keeps(out: &mut Writer, keeps: &Keeps, found: &[Reply]) -> Result<(), Full>
+pub(crate) fn put_keeps(
+    out: &mut Writer,
+    text: &[u8],
+    keeps: &Keeps,
+    found: &[Reply],
+) -> Result<(), Full>
     requires room { IsWithin out.old }
     requires whole { length found.now ≡ length (kept_list keeps.now) }
-    ensures { PutsLines (told_keeps (kept_list keeps.now) found.now) out.old out.new result }
+    ensures { PutsLines (told_keeps text.now (kept_list keeps.now) found.now) out.old out.new result }
 {
     for (keep, reply) in keeps.as_slice().iter().zip(found) {
-        put_keep(out, keep.label, finding_in(*reply))?;
+        put_keep(out, keep.label.part(text), finding_in(*reply))?;
     }
     Ok(())
 }

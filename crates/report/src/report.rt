@@ -52,30 +52,31 @@ fn follow_plan<D: Domain + Drop>(
 }
 
 /// Puts the lines of a plan's report, by the answers of its tube to the questions.
-fn put_lines(out: &mut Writer, plan: &Plan, answers: &[Reply]) -> Result<(), Full>
+fn put_lines(out: &mut Writer, text: &[u8], plan: &Plan, answers: &[Reply]) -> Result<(), Full>
     requires room { IsWithin out.old }
     requires whole { 9 * plan.now.steps.count + 8 + length (kept_list plan.now.keeps) ≡ length answers.now }
     requires limited { Limited answers.now }
-    ensures { PutsLines (told_lines (kept_list plan.now.keeps) answers.now plan.now.steps.count) out.old out.new result }
+    ensures { PutsLines (told_lines text.now (kept_list plan.now.keeps) answers.now plan.now.steps.count) out.old out.new result }
 {
     let steps = plan.steps.count();
     put_steps(out, answers, steps)?;
-    put_keeps(out, &plan.keeps, &answers[9 * steps + 8..])
+    put_keeps(out, text, &plan.keeps, &answers[9 * steps + 8..])
 }
 
 /// Puts the report of a plan over a domain.
 fn put_plan<D: Domain + Drop>(
     heap: Global,
     out: &mut Writer,
+    text: &[u8],
     plan: &Plan,
     domain: D,
 ) -> Result<(), Fault>
     requires room { IsWithin out.old }
-    ensures { PutsReport (Unit {0}) (lines_over D.sense (D.form domain) (plan_task plan.now)) out.old out.new result }
+    ensures { PutsReport (Unit {0}) (lines_over D.sense (D.form domain) (plan_task text.now plan.now)) out.old out.new result }
 {
     let replies = follow_plan(heap, plan, domain)?;
     // the replies to the watches come first
-    put_lines(out, plan, &replies[plan.keeps.count()..])?;
+    put_lines(out, text, plan, &replies[plan.keeps.count()..])?;
     Ok(())
 }
 
@@ -98,7 +99,7 @@ fn put_report(heap: Global, out: &mut Writer, text: &[u8]) -> Result<(), Fault>
     match read_plan(text) {
         Ok(plan) => {
             let domain = ReducedProduct::new(Zonotope::new(), IntervalBox::new());
-            put_plan(heap, out, &plan, domain)
+            put_plan(heap, out, text, &plan, domain)
         }
         Err(refusal) => {
             put_refusal(out, refusal.told())?;

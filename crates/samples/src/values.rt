@@ -1,5 +1,6 @@
 //! Checked values from plain numbers.
-ghost use Rattle.std.specs.Prelude.{◌≡◌, ◌≤◌, [], ◌∷◌, pos, IfOk, MatchResult};
+ghost use Rattle.std.specs.Prelude.{◌≡◌, ℕ, ◌<◌, ◌≤◌, [], ◌∷◌, pos, IfOk, if◌then◌else◌, MatchResult, nat_eq};
+ghost use Rattle.arith.specs.Sums.{entry};
 ghost use Rattle.dynamics.specs.Refusals.{by_parts};
 
 use domains::axis::SignedAxis;
@@ -12,12 +13,16 @@ use dynamics::start::Start;
 use std::test::Fail;
 
 /// The loop that keeps every state where it is.
-pub const IDENTITY: [[i64; 4]; 4] = [
-    [4096, 0, 0, 0],
-    [0, 4096, 0, 0],
-    [0, 0, 4096, 0],
-    [0, 0, 0, 4096],
-];
+pub fn identity() -> [[i64; 4]; 4]
+    ensures { (i j : ℕ) → i < 4 → j < 4 → entry result i j ≡ (if nat_eq i j then pos 4096 else pos 0) }
+{
+    [
+        [4096, 0, 0, 0],
+        [0, 4096, 0, 0],
+        [0, 0, 4096, 0],
+        [0, 0, 0, 4096],
+    ]
+}
 
 pub fn channel(gains: [i64; 4], centre: i64, radius: i64) -> Channel
     ensures { (result.gains ≡ gains) × (result.centre ≡ centre) × (result.radius ≡ radius) }
@@ -66,9 +71,11 @@ pub fn axis(index: usize) -> Result<SignedAxis, Fail>
     SignedAxis::new(index).ok_or_else(|| Fail::new("no axis has that number"))
 }
 
-/// The loop and gusts of the worked plan.
-pub fn worked_model() -> Result<Model, Refusal>
-    ensures { IfOk result (λ m. (m.centres ≡ pos 0 ∷ pos 0 ∷ []) × (m.radii ≡ pos 4 ∷ pos 0 ∷ [])) }
+/// The loop and gusts of the worked plan, for a program: the error is the model's own.
+pub fn plan_model() -> Result<Model, Refusal>
+    ensures matrix { IfOk result (λ m. m.matrix ≡ (pos 4096 ∷ pos 1024 ∷ pos 0 ∷ pos 0 ∷ []) ∷ (pos 0 ∷ pos 2048 ∷ pos 0 ∷ pos 0 ∷ []) ∷ (pos 0 ∷ pos 0 ∷ pos 0 ∷ pos 0 ∷ []) ∷ (pos 0 ∷ pos 0 ∷ pos 0 ∷ pos 0 ∷ []) ∷ []) }
+    ensures gains { IfOk result (λ m. m.gains ≡ (pos 0 ∷ pos 0 ∷ []) ∷ (pos 4096 ∷ pos 0 ∷ []) ∷ (pos 0 ∷ pos 0 ∷ []) ∷ (pos 0 ∷ pos 0 ∷ []) ∷ []) }
+    ensures gusts { IfOk result (λ m. (m.centres ≡ pos 0 ∷ pos 0 ∷ []) × (m.radii ≡ pos 4 ∷ pos 0 ∷ [])) }
 {
     Model::new(
         [[4096, 1024, 0, 0], [0, 2048, 0, 0], [0; 4], [0; 4]],
@@ -77,9 +84,23 @@ pub fn worked_model() -> Result<Model, Refusal>
     )
 }
 
-/// Where the worked plan's runs begin.
-pub fn worked_start() -> Result<Start, Refusal>
+/// Where the worked plan's runs begin, for a program: the error is the start's own.
+pub fn plan_start() -> Result<Start, Refusal>
     ensures { IfOk result (λ s. (s.centres ≡ pos 100 ∷ pos 0 ∷ pos 0 ∷ pos 0 ∷ []) × (s.radii ≡ pos 8 ∷ pos 8 ∷ pos 0 ∷ pos 0 ∷ [])) }
 {
     Start::new([100, 0, 0, 0], [8, 8, 0, 0])
+}
+
+/// The loop and gusts of the worked plan.
+pub fn worked_model() -> Result<Model, Fail>
+    ensures { IfOk result (λ m. (m.centres ≡ pos 0 ∷ pos 0 ∷ []) × (m.radii ≡ pos 4 ∷ pos 0 ∷ [])) }
+{
+    Ok(plan_model()?)
+}
+
+/// Where the worked plan's runs begin.
+pub fn worked_start() -> Result<Start, Fail>
+    ensures { IfOk result (λ s. (s.centres ≡ pos 100 ∷ pos 0 ∷ pos 0 ∷ pos 0 ∷ []) × (s.radii ≡ pos 8 ∷ pos 8 ∷ pos 0 ∷ pos 0 ∷ [])) }
+{
+    Ok(plan_start()?)
 }

@@ -1,8 +1,9 @@
 -- The exact support number by parts, as code computes it.
-use Rattle.std.proofs.Common.{◌≡◌, ℕ, zero, suc, ◌-◌, ◌*◌, ◌^◌, ◌<◌, List, ℤ, pos, negsuc, ◌+ℤ◌, ◌*ℤ◌, nat_abs, ◌≤ℤ◌, refl, ap, ◌∙◌, ap₂, arith}
+use Rattle.std.proofs.Common.{◌≡◌, ℕ, zero, suc, ◌+◌, ◌-◌, ◌*◌, ◌^◌, ◌<◌, List, [], ◌∷◌, ℤ, pos, negsuc, ◌+ℤ◌, ◌*ℤ◌, nat_abs, ◌≤ℤ◌, sym, refl, ap, ◌∙◌, ap₂, arith}
 use borrow.Author.Differences.{ints}
 use Rattle.arith.specs.Sums.{sum, total, listed, part, entry}
 use Rattle.arith.specs.Products.{dot, row_times, spanned}
+use Rattle.arith.proofs.Bridge.{sum_two, total_two}
 use Rattle.arith.proofs.Sums.{sum_ext, sum-pos, total_ext, listed_at}
 use Rattle.dynamics.specs.declared.model.Model.{Model}
 use Rattle.dynamics.specs.declared.start.Start.{Start}
@@ -24,6 +25,10 @@ spanning n l w h =
     sum_ext n (λ i. pos (nat_abs (l i)) *ℤ w i) (λ i. pos (nat_abs (l i) * nat_abs (w i))) (λ i k. ap (λ (z : ℤ). pos (nat_abs (l i)) *ℤ z) (nonneg (w i) (h i k)))
     ∙ sum-pos n (λ i. nat_abs (l i) * nat_abs (w i))
 
+sum_one : (f : ℕ → ℤ) → sum 1 f ≡ f 0
+unfolding sum
+sum_one f = omega (arith, ints)
+
 -- how far numbers within radii of centres reach
 abbrev pub reached : ℕ → (ℕ → ℤ) → (ℕ → ℤ) → (ℕ → ℤ) → ℤ
 reached n l p w = sum n (λ i. l i *ℤ p i) +ℤ sum n (λ i. pos (nat_abs (l i)) *ℤ w i)
@@ -33,15 +38,24 @@ start_is s l p w =
     ap₂ (λ (p w : List ℤ). reached 4 l (part p) (part w)) p w
     ∙ ap (λ (z : ℤ). dot l (centre s) +ℤ z) (spanning 4 l (part s.radii) s.limited.0)
 
-pub gusts_are : (m : Model) (l : ℕ → ℤ) {b : List (List ℤ)} {xs p w : List ℤ} → xs ≡ listed 2 (row_times l (entry b)) → b ≡ m.gains → p ≡ m.centres → w ≡ m.radii
-    → reached 2 (part xs) (part p) (part w) ≡ gusts m l
-gusts_are m l {b} {xs} {p} {w} e q u v =
-    let g = across m l in
-    ap (λ (xs : List ℤ). reached 2 (part xs) (part p) (part w)) (e ∙ ap (λ (a : List (List ℤ)). listed 2 (row_times l (entry a))) q)
-    ∙ ap₂ (λ (p w : List ℤ). reached 2 (part (listed 2 g)) (part p) (part w)) u v
-    ∙ ap₂ ◌+ℤ◌ (sum-listed 2 g (middle m))
-    (sum_ext 2 (λ j. pos (nat_abs (part (listed 2 g) j)) *ℤ part m.radii j) (λ j. pos (nat_abs (g j)) *ℤ part m.radii j) (λ j h. ap (λ (z : ℤ). pos (nat_abs z) *ℤ part m.radii j) (listed_at 2 g (pos 0) j h))
-    ∙ spanning 2 g (part m.radii) m.calm.0)
+-- what one channel adds
+pub channel_is : {z g g' p p' w w' : ℤ} → g' ≡ g → p' ≡ p → w' ≡ w → pos 0 ≤ℤ w → z ≡ reached 1 (part (g' ∷ [])) (part (p' ∷ [])) (part (w' ∷ [])) → z ≡ g *ℤ p +ℤ pos (nat_abs g * nat_abs w)
+channel_is {z} {g} {g'} {p} {p'} {w} {w'} a b d h e =
+    e ∙ ap₂ ◌+ℤ◌ (sum_one (λ i. part (g' ∷ []) i *ℤ part (p' ∷ []) i)) (sum_one (λ i. pos (nat_abs (part (g' ∷ []) i)) *ℤ part (w' ∷ []) i))
+    ∙ ap₂ ◌+ℤ◌ (ap₂ ◌*ℤ◌ a b) (ap₂ (λ (u v : ℤ). pos (nat_abs u) *ℤ v) a (d ∙ nonneg w h))
+
+-- a direction carried onto the channels, from the gains that were read
+pub pushed_is : (m : Model) (l : ℕ → ℤ) {b : List (List ℤ)} {xs : List ℤ} → xs ≡ listed 2 (row_times l (entry b)) → b ≡ m.gains → (j : ℕ) → j < 2 → part xs j ≡ across m l j
+pushed_is m l e q j h = ap (λ (xs : List ℤ). part xs j) (e ∙ ap (λ (b : List (List ℤ)). listed 2 (row_times l (entry b))) q) ∙ listed_at 2 (across m l) (pos 0) j h
+
+pub gusts_are : (m : Model) (l : ℕ → ℤ) {a b : ℤ} → a ≡ across m l 0 *ℤ middle m 0 +ℤ pos (nat_abs (across m l 0) * radius m 0)
+    → b ≡ across m l 1 *ℤ middle m 1 +ℤ pos (nat_abs (across m l 1) * radius m 1) → a +ℤ b ≡ gusts m l
+gusts_are m l {a} {b} p q =
+    ap₂ ◌+ℤ◌ p q ∙ regroup (across m l 0 *ℤ middle m 0) (across m l 1 *ℤ middle m 1) (nat_abs (across m l 0) * radius m 0) (nat_abs (across m l 1) * radius m 1)
+    ∙ ap₂ (λ (u : ℤ) (n : ℕ). u +ℤ pos n) (sym (sum_two (λ j. across m l j *ℤ middle m j))) (sym (total_two (λ j. nat_abs (across m l j) * radius m j)))
+  where
+    regroup : (u v : ℤ) (x y : ℕ) → (u +ℤ pos x) +ℤ (v +ℤ pos y) ≡ (u +ℤ v) +ℤ pos (x + y)
+    regroup u v x y = omega (arith, ints)
 
 -- a direction carried back, from the matrix that was read
 pub carried_is : (m : Model) (l : ℕ → ℤ) {a : List (List ℤ)} {xs : List ℤ} → xs ≡ listed 4 (row_times l (entry a)) → a ≡ m.matrix → xs ≡ listed 4 (through m l)

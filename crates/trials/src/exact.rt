@@ -2,7 +2,7 @@
 ghost use Rattle.std.specs.Prelude.{◌≡◌, ℕ, ◌^◌, ◌<◌, pos, ◌+ℤ◌, ◌*ℤ◌, IfSome, unsigned_abs};
 ghost use Rattle.arith.specs.Sums.{part, entry, listed, sum};
 ghost use Rattle.arith.specs.Products.{row_times};
-ghost use Rattle.dynamics.specs.Support.{exact as exact_of};
+ghost use Rattle.dynamics.specs.Support.{gusts as gusts_of, exact as exact_of};
 
 use dynamics::model::Model;
 use dynamics::start::Start;
@@ -51,6 +51,17 @@ fn row_times<const N: usize>(l: [i128; 4], a: [[i64; N]; 4]) -> Option<[i128; N]
     Some(products)
 }
 
+/// The most that the gusts add in a direction, channel by channel.
+fn gust_reach(model: &Model, l: [i128; 4]) -> Option<i128>
+    ensures { IfSome result (λ z. z ≡ gusts_of model.now (part l)) }
+{
+    let [first, second] = row_times(l, model.gains())?;
+    let centres = model.centres();
+    let radii = model.radii();
+    let reached = reach([first], [centres[0]], [radii[0]])?;
+    reached.checked_add(reach([second], [centres[1]], [radii[1]])?)
+}
+
 /// 4096 to the power `k`.
 pub fn scale(k: u32) -> Option<i128>
     ensures { IfSome result (λ z. z ≡ pos (4096 ^ k)) }
@@ -66,6 +77,5 @@ pub fn exact(model: &Model, start: &Start, k: u32, l: [i128; 4]) -> Option<i128>
         return reach(l, start.centres(), start.radii());
     }
     let rest = exact(model, start, k - 1, row_times(l, model.matrix())?)?;
-    let gusts = reach(row_times(l, model.gains())?, model.centres(), model.radii())?;
-    rest.checked_add(scale(k - 1)?.checked_mul(gusts)?)
+    rest.checked_add(scale(k - 1)?.checked_mul(gust_reach(model, l)?)?)
 }

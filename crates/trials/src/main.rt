@@ -24,6 +24,7 @@ mod trouble;
 mod verdict;
 mod walk;
 
+use anyhow::anyhow;
 use calls::check_calls;
 use kind::Kind;
 use numbers::check_numbers;
@@ -46,11 +47,13 @@ const KINDS: [Kind; 8] = [
 fn main(rt: HostRuntime) -> anyhow::Result<()> {
     show_stored(&rt, "texts", check_texts(rt.alloc())?)?;
     show_stored(&rt, "numbers", check_numbers())?;
-    let calls = check_calls()?;
+    let calls = check_calls().map_err(|_| anyhow!("no tube could be opened"))?;
     show_stored(&rt, "calls", calls)?;
     let mut random = Random::new(20260101);
     for kind in KINDS {
-        show_kind(&rt, kind, try_kind(rt.alloc(), kind, &mut random)?)?;
+        let tried = try_kind(rt.alloc(), kind, &mut random);
+        let outcome = tried.map_err(|_| anyhow!("a trial could not be made"))?;
+        show_kind(&rt, kind, outcome)?;
     }
     Ok(())
 }

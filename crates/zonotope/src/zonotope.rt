@@ -101,7 +101,10 @@ impl Domain for Zonotope {
     }
 
     fn advance(&mut self, model: &Model) {
-        self.stored = self.stored.and_then(|stored| step::advance(model, &stored));
+        // no `and_then`: an unbounded set would be copied over itself
+        if let Some(stored) = self.stored {
+            self.stored = step::advance(model, &stored);
+        }
     }
 
     fn bound(&self, direction: &Direction) -> Option<i64> {

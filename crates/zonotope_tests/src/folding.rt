@@ -8,7 +8,7 @@ ghost use Rattle.zonotope.specs.Tight.{after};
 
 use super::shown::check_generators;
 use domains::domain::Domain;
-use samples::values::{IDENTITY, channel, direction, model, start};
+use samples::values::{channel, direction, identity, model, start};
 use std::test::Fail;
 use zonotope::zonotope::Zonotope;
 
@@ -18,7 +18,7 @@ fn repeated(steps: usize) -> Result<Zonotope, Fail>
     ensures { IfOk result (λ z. ((m : Model) × (s : Start) × (form_of z.stored ≡ after m s steps))) }
 {
     let still = model(
-        IDENTITY,
+        identity(),
         channel([12288, -20480, 0, 4096], 0, 1),
         channel([40960; 4], 0, 1),
     )?;

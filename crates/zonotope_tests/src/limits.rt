@@ -6,7 +6,7 @@ ghost use Rattle.zonotope.specs.Tight.{after};
 
 use domains::domain::Domain;
 use dynamics::model::Model;
-use samples::values::{IDENTITY, calm, channel, direction, model, start};
+use samples::values::{calm, channel, direction, identity, model, start};
 use std::test::Fail;
 use zonotope::zonotope::Zonotope;
 
@@ -28,7 +28,7 @@ fn still(radius: i64) -> Result<Zonotope, Fail>
     ensures { IfOk result (λ z. ((m : Model) × (s : Start) × (form_of z.stored ≡ after m s 1))) }
 {
     let model = model(
-        IDENTITY,
+        identity(),
         channel([4096, 0, 0, 0], 0, radius),
         channel([0; 4], 0, 0),
     )?;

@@ -16,7 +16,7 @@ returns-in_err-put_steps c =
     rw p.1
     record {
       lent = c.in_err-put_steps.ensures.lent;
-      lines = stopped_first (told_steps rs c.args.plan.now.steps.count) (told_keeps ks (drop (9 * c.args.plan.now.steps.count + 8) rs)) _ _ _ _
+      lines = stopped_first (told_steps rs c.args.plan.now.steps.count) (told_keeps c.args.text.now ks (drop (9 * c.args.plan.now.steps.count + 8) rs)) _ _ _ _
           (let e = c.count-steps.ensures.value in rw e at c.in_err-put_steps.ensures.lines);
     }
 
@@ -28,8 +28,8 @@ returns c =
     let e = c.count-steps.ensures.value in
     record {
       lent = c.put_keeps.ensures.lent ∙ c.in_ok-put_steps.ensures.lent;
-      lines = puts_then (told_steps rs n) (told_keeps ks (drop (9 * n + 8) rs)) c.args.out.now c.put_steps.new.out c.put_keeps.new.out c.put_keeps.result
+      lines = puts_then (told_steps rs n) (told_keeps c.args.text.now ks (drop (9 * n + 8) rs)) c.args.out.now c.put_steps.new.out c.put_keeps.new.out c.put_keeps.result
           (subst (λ (k : ℕ). PutsAll (told_steps rs k) c.args.out.now c.put_steps.new.out (Ok c.in_ok-put_steps.field-0)) e c.in_ok-put_steps.ensures.lines)
-          (subst (λ (k : ℕ). PutsAll (told_keeps ks (drop (9 * k + 8) rs)) c.put_steps.new.out c.put_keeps.new.out c.put_keeps.result) e
-          (subst (λ (found : List Reply). PutsAll (told_keeps ks found) c.put_steps.new.out c.put_keeps.new.out c.put_keeps.result) (take_rest rs (9 * c.count-steps.result + 8)) c.put_keeps.ensures.lines));
+          (subst (λ (k : ℕ). PutsAll (told_keeps c.args.text.now ks (drop (9 * k + 8) rs)) c.put_steps.new.out c.put_keeps.new.out c.put_keeps.result) e
+          (subst (λ (found : List Reply). PutsAll (told_keeps c.args.text.now ks found) c.put_steps.new.out c.put_keeps.new.out c.put_keeps.result) (take_rest rs (9 * c.count-steps.result + 8)) c.put_keeps.ensures.lines));
     }

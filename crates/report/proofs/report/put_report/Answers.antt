@@ -53,7 +53,7 @@ returns-in-Ok c =
     record {
       lent = c.put_plan.ensures.lent;
       lines = of_plan text (λ W lines. PutsTask W lines c.args.out.now c.put_plan.new.out c.put_plan.result) plan i.law i.value
-          (subst (λ (f : Stack). PutsTask (Unit {0}) (lines_over stack f (plan_task plan)) c.args.out.now c.put_plan.new.out c.put_plan.result) (λ k. (left k, right k)) c.put_plan.ensures.lines);
+          (subst (λ (f : Stack). PutsTask (Unit {0}) (lines_over stack f (plan_task text plan)) c.args.out.now c.put_plan.new.out c.put_plan.result) (λ k. (left k, right k)) c.put_plan.ensures.lines);
       short = plan_fits text plan i.law i.value;
       law = subst (Answers text) i.value i.law;
     }

@@ -2,7 +2,7 @@ use Rattle.std.proofs.Common.{ℕ, ◌<◌, ◌+ℤ◌, ◌*ℤ◌, sym, ap, ◌
 use mir.Syntax.{w128}
 use Rattle.arith.specs.Sums.{part}
 use Rattle.dynamics.specs.Support.{exact}
-use Rattle.trials.proofs.SupportNumbers.{start_is, carried_is, gusts_are, exact_step}
+use Rattle.trials.proofs.SupportNumbers.{start_is, carried_is, exact_step}
 use Rattle.trials.proofs.Wide.{wide_is, is_as, checked_as}
 use Rattle.trials.proofs.exact.+exact.Goals as goal
 
@@ -21,8 +21,7 @@ returns t c =
     let f : SFits w128 c.in_ok-rest.rest = search rules in
     let g : SFits w128 c.in_ok-checked_mul.field-0 = search rules in
     let u : SFits w128 c.in_ok-scale.field-0 = search rules in
-    let p : SFits w128 c.in_ok-gusts.gusts = search rules in
-    let push = c.in_ok-gusts.ensures ∙ gusts_are m l c.in_ok-row_times-2.ensures c.gains.ensures c.centres-2.ensures c.radii-2.ensures in
+    let p : SFits w128 c.in_ok-gust_reach.field-0 = search rules in
     checked_as c.checked_add.result _ _ _ c.checked_add.ensures
     (ap₂ ◌+ℤ◌ (wide_is _ f) (wide_is _ g ∙ c.in_ok-checked_mul.ensures.1 ∙ ap₂ ◌*ℤ◌ (wide_is _ u) (wide_is _ p))
-    ∙ exact_step m c.args.start.now c.args.k l some (carried_is m l c.in_ok-row_times.ensures c.matrix.ensures) c.in_ok-rest.ensures c.in_ok-scale.ensures push)
+    ∙ exact_step m c.args.start.now c.args.k l some (carried_is m l c.in_ok-row_times.ensures c.matrix.ensures) c.in_ok-rest.ensures c.in_ok-scale.ensures c.in_ok-gust_reach.ensures)

@@ -28,10 +28,10 @@ limits p q r s a b c d k l m n = (
 
 pub unreachable-requires : goal.unreachable-requires
 unreachable-requires c =
-    let first = read 1 c.args.self.now.number c.args.self.now.rest.now c.in_ok-p1.p1 c.in_ok-p1.w1 _ _ c.in_ok-p1.ensures in
-    let second = read 2 c.part.new.self.number c.part.new.self.rest.now c.in_ok-p2.p2 c.in_ok-p2.w2 _ _ c.in_ok-p2.ensures in
-    let third = read 3 c.part-2.new.self.number c.part-2.new.self.rest.now c.in_ok-p3.p3 c.in_ok-p3.w3 _ _ c.in_ok-p3.ensures in
-    let fourth = read 4 c.part-3.new.self.number c.part-3.new.self.rest.now c.in_ok-p4.p4 c.in_ok-p4.w4 _ _ c.in_ok-p4.ensures in
+    let first = read 1 c.args.self.now.number c.args.self.now.rest.now c.in_ok-p1.p1 c.in_ok-p1.w1 _ _ c.in_ok-p1.ensures.value in
+    let second = read 2 c.part.new.self.number c.part.new.self.rest.now c.in_ok-p2.p2 c.in_ok-p2.w2 _ _ c.in_ok-p2.ensures.value in
+    let third = read 3 c.part-2.new.self.number c.part-2.new.self.rest.now c.in_ok-p3.p3 c.in_ok-p3.w3 _ _ c.in_ok-p3.ensures.value in
+    let fourth = read 4 c.part-3.new.self.number c.part-3.new.self.rest.now c.in_ok-p4.p4 c.in_ok-p4.w4 _ _ c.in_ok-p4.ensures.value in
     let none = c.in_default.ensures.limits.1 (limits _ _ _ _ _ _ _ _ first second third fourth) in
     let some = c.in_default.ensures.value in
     let z : ◌≡◌ {A = ℕ} 0 1 = cc in
