@@ -39,7 +39,9 @@ impl<P: Domain, Q: Domain> ReducedProduct<P, Q> {
     fn narrow(&mut self, axis: SignedAxis)
         ensures { (P.Domain.form self.new.left, Q.Domain.form self.new.right) ≡ spec.narrowed P.Domain.sense Q.Domain.sense axis (P.Domain.form self.old.left, Q.Domain.form self.old.right) }
     {
-        if let Some(least) = self.bound(&axis.direction()) {
+        let direction = axis.direction();
+        let bound = lesser(self.left.bound(&direction), self.right.bound(&direction));
+        if let Some(least) = bound {
             self.left.cut(axis, least);
             self.right.cut(axis, least);
         }

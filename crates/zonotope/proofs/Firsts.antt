@@ -1,11 +1,13 @@
 -- The choices of a fold.
-use Rattle.std.proofs.Common.{◌≡◌, ℕ, zero, suc, ◌<◌, ◌≤◌, min, max, Bool, true, false, eqb, leb, List, length, ℤ, refl, ◌∙◌, ⊎_elim, arith, eq-eqb, eqb-true, leb-false, leb-true}
+use Rattle.std.proofs.Common.{◌≡◌, ℕ, zero, suc, ◌+◌, ◌-◌, ◌<◌, ◌≤◌, min, max, Bool, true, false, eqb, leb, List, length, ℤ, refl, ◌∙◌, ⊎_elim, arith, eq-eqb, eqb-true, leb-false, leb-true}
 use borrow.Author.Tests.{eqb-false}
 use Rattle.std.proofs.lemmas.Bool.{cases_order}
+use Rattle.arith.proofs.Indices.{by4}
+use Rattle.arith.proofs.Bridge.{total-four}
 use Rattle.zonotope.specs.Shape.{Shape, size}
 use Rattle.zonotope.specs.Fold.{folded}
 use Rattle.std.proofs.lemmas.List.Edits.{length-remove}
-use Rattle.zonotope.specs.Choice.{greatest, least, first, longest, weights, lightest, FirstLeast, FirstGreatest}
+use Rattle.zonotope.specs.Choice.{greatest, least, first, longest, weight, weights, lightest, FirstLeast, FirstGreatest}
 
 -- the first place that passes, if one does
 record First (n : ℕ) (t : ℕ → Bool) (p : ℕ) : Type 0 where
@@ -119,3 +121,19 @@ pub first-greatest-one : (n : ℕ) (f : ℕ → ℕ) (p q : ℕ) → FirstGreate
 first-greatest-one n f p q a b =
     ⊎_elim (λ e. e) (⊎_elim (λ (h : p < q). absurd (omega (arith, b.earliest p h, a.greatest q b.inside))) (λ (h : q < p). absurd (omega (arith, a.earliest q h, b.greatest p a.inside))))
     (cases_order p q)
+
+-- the greatest number stands at its first place
+pub greatest_at : (n : ℕ) (f : ℕ → ℕ) (p : ℕ) → FirstGreatest n f p → greatest n f ≡ f p
+greatest_at zero f p h = absurd (omega (arith, h.inside))
+greatest_at (suc n) f p h =
+    let a = greatest_met n f in
+    omega (arith, a.is, h.greatest a.place a.inside, greatest_high (suc n) f p h.inside)
+
+-- the weight from the four sizes and the one that stands at the first greatest
+pub weighed : (g : List ℤ) (p : ℕ) {a b c d e : ℕ} → FirstGreatest 4 (size g) p → a ≡ size g 0 → b ≡ size g 1 → c ≡ size g 2 → d ≡ size g 3 → e ≡ size g p
+    → (e ≤ a + b + (c + d)) × (a + b + (c + d) - e ≡ weight g)
+weighed g p h ea eb ec ed ee =
+    let t = total-four (size g) in
+    let m = greatest_at 4 (size g) p h in
+    let s = by4 (λ i. size g i ≤ size g 0 + size g 1 + size g 2 + size g 3) (omega arith) (omega arith) (omega arith) (omega arith) p h.inside in
+    (omega arith, omega arith)

@@ -1,10 +1,10 @@
 -- The loop of folds: what is left to fold gives the same.
-use Rattle.std.proofs.Common.{◌≡◌, ◌-◌, ◌<◌, ◌≤◌, List, length, ℤ, Some, None, Option, sym, refl, ap, ◌∙◌, ap₂}
+use Rattle.std.proofs.Common.{◌≡◌, ℕ, zero, suc, ◌-◌, ◌<◌, ◌≤◌, List, length, ℤ, Some, None, Option, sym, refl, ap, ◌∙◌, ap₂}
 use Rattle.std.specs.Option.{option_map}
 use Rattle.zonotope.specs.declared.fold.Folding.{Folding}
 use Rattle.zonotope.specs.Shape.{Shape}
 use Rattle.zonotope.specs.Choice.{lightest}
-use Rattle.zonotope.specs.Fold.{folded, reduced}
+use Rattle.zonotope.specs.Fold.{folded, folds, reduced}
 use Rattle.zonotope.specs.Spread.{spread_charged, spreads}
 use Rattle.zonotope.specs.Forms.{standing}
 use Rattle.zonotope.specs.Foldings.{folding_shape}
@@ -39,3 +39,9 @@ pub record Reduced (start now : Folding) : Type 0 where
 pub folds_all : (start now : Folding) → length (standing now.generators) ≤ 16 → Folds start now → Reduced start now
 folds_all start now h s =
     record { shape = sym (reduced-none (folding_shape now) h) ∙ s.shape; spread = sym (left-none (folding_shape now) now.spread h) ∙ s.spread }
+
+-- a fold leaves the centre
+pub folds-centre : (n : ℕ) (z : Shape) → (folds n z).centre ≡ z.centre
+unfolding folds folded
+folds-centre zero z = refl
+folds-centre (suc n) z = folds-centre n (folded (lightest z.generators) z)
